@@ -1,0 +1,11 @@
+//! XML documents as tokens, for a tree to be built from.
+//!
+//! The bytes are judged as text and cut into the longest list of whole tokens. Tokens lend their texts from the bytes;
+//! nothing here nests elements, reads names as namespaces, or joins texts.
+#![tactic(auto)]
+
+mod fault;
+mod token;
+
+pub use fault::TokenFault;
+pub use token::{SpelledAttribute, StartTag, Token};
