@@ -1,0 +1,6 @@
+pub mod Texts
+pub mod Pairs
+pub mod Shape
+pub mod Contents
+pub mod Identifier
+pub mod Validity
