@@ -1,0 +1,3 @@
+-- lemmas on the network
+pub mod Traffic
+pub mod Examples
