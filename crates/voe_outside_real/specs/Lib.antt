@@ -1,0 +1,3 @@
+-- Words of the adapters.
+pub mod Reading
+pub mod Writing
