@@ -1,0 +1,2 @@
+-- Words of times.
+pub mod Stamp
