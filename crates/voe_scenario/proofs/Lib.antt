@@ -1,0 +1,6 @@
+-- lemmas on texts
+pub mod Pieces
+pub mod Numbers
+pub mod Names
+pub mod Kept
+pub mod Turns

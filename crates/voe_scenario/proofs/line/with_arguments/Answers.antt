@@ -1,0 +1,10 @@
+-- A fourth word ends the grammar.
+use Rattle.std.proofs.Common.{◌≡◌, ◌==◌}
+use Rattle.voe_scenario.proofs.Pieces.{too_many_words}
+use Rattle.voe_scenario.proofs.line.with_arguments.Goals as goal
+
+pub returns-in-Some-more : goal.returns-in-Some-more
+returns-in-Some-more c =
+    let first = rw c.in-Some.is at c.cut.ensures.pieces in
+    let second = rw c.in-Some-more.is at c.cut-2.ensures.pieces in
+    rw (first, second) (too_many_words (λ b. b == 32) c.args.word.now c.cut.result.0.now c.cut-2.result.0.now c.in-Some-more.field-0.now)

@@ -1,0 +1,7 @@
+-- What breaks no rule keeps a scenario sound.
+use Rattle.voe_scenario.proofs.Turns.{sound_with}
+use Rattle.voe_scenario.proofs.text.take_line.Goals as goal
+
+pub returns-in-Ok-add_line-clause-sound : goal.returns-in-Ok-add_line-clause-sound
+returns-in-Ok-add_line-clause-sound c =
+    sound_with c.args.scenario.now c.add_line.new.scenario c.args.line.now _ c.requires c.in-Ok.ensures.fits c.in-Ok-add_line.ensures

@@ -1,0 +1,36 @@
+-- Lines, words and numbers.
+use Rattle.std.specs.Prelude.{ℕ, ◌+◌, ◌-◌, ◌*◌, cond, Bool, true, false, List, [], ◌∷◌, Option, Some, None, length, ◌==◌, ◌&&◌, ◌||◌, nat_le, fold}
+use Rattle.std.specs.List.{slice_split, list_all}
+
+-- a line feed ends each line, but the last may lack it
+abbrev pub lines_of : List ℕ → List (List ℕ)
+lines_of text = slice_split (λ b. b == 10) text
+
+-- one blank separates two words
+abbrev pub words_of : List ℕ → List (List ℕ)
+words_of line = slice_split (λ b. b == 32) line
+
+-- from the blank to the tilde
+abbrev pub is_printable : ℕ → Bool
+is_printable b = nat_le 32 b && nat_le b 126
+
+abbrev pub is_digit : ℕ → Bool
+is_digit b = nat_le 48 b && nat_le b 57
+
+-- up to seven digits
+abbrev pub has_digits : List ℕ → Bool
+has_digits word = nat_le (length word) 7 && list_all is_digit word
+
+-- 0, or up to seven digits that don't begin with 0
+unfoldable pub is_number : List ℕ → Bool
+is_number [] = false
+is_number (digit ∷ []) = has_digits (digit ∷ [])
+is_number (digit ∷ second ∷ others) = cond (digit == 48) false (has_digits (digit ∷ second ∷ others))
+
+-- what digits say
+abbrev pub value_of : List ℕ → ℕ
+value_of digits = fold (λ value digit. value * 10 + (digit - 48)) 0 digits
+
+-- the number that a word is, if it is one
+abbrev pub number_of : List ℕ → Option ℕ
+number_of word = cond (is_number word) (Some (value_of word)) None

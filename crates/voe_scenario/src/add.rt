@@ -1,0 +1,74 @@
+//! What a line adds to a scenario.
+
+ghost use Rattle.std.specs.Prelude.{◌≡◌, ◌≤◌, ◌++◌, ◌∷◌, [], OnOk, length, true};
+ghost use Rattle.voe_scenario.specs.Lines.{meaning};
+ghost use Rattle.voe_scenario.specs.Refusals.{is_named, is_within};
+ghost use Rattle.voe_scenario.specs.Scenarios.{with_edge, with_event, with_said};
+
+use crate::line::Line;
+use crate::scenario::Scenario;
+use net_model::{Edge, Event};
+use std::alloc::Global;
+use voe_values::{Bytes, NoMemory, NodeKind};
+
+fn add_node(scenario: &mut Scenario, kind: NodeKind) -> Result<(), NoMemory>
+    ensures { OnOk result (scenario.new ≡ record scenario.old { graph = record scenario.old.graph { nodes = scenario.old.graph.nodes ++ kind ∷ [] } }) }
+{
+    match scenario.graph.nodes.push(kind) {
+        Ok(()) => Ok(()),
+        Err(_) => Err(NoMemory),
+    }
+}
+
+fn add_edge(scenario: &mut Scenario, upper: u8, lower: u8) -> Result<(), NoMemory>
+    ensures { OnOk result (scenario.new ≡ with_edge scenario.old upper lower) }
+{
+    match scenario.graph.edges.push(Edge { upper, lower }) {
+        Ok(()) => Ok(()),
+        Err(_) => Err(NoMemory),
+    }
+}
+
+fn add_packet(alloc: Global, scenario: &mut Scenario, packet: &[u8]) -> Result<(), NoMemory>
+    ensures { OnOk result (scenario.new ≡ record scenario.old { packets = scenario.old.packets ++ packet.now ∷ [] }) }
+{
+    let packet = Bytes::of(alloc, packet)?;
+    match scenario.packets.push(packet) {
+        Ok(()) => Ok(()),
+        Err(_) => Err(NoMemory),
+    }
+}
+
+fn add_event(scenario: &mut Scenario, event: Event) -> Result<(), NoMemory>
+    ensures { OnOk result (scenario.new ≡ with_event scenario.old event) }
+{
+    match scenario.events.push(event) {
+        Ok(()) => Ok(()),
+        Err(_) => Err(NoMemory),
+    }
+}
+
+/// Adds what a line says, whose numbers name what is there.
+#[tactic(auto, using(crate::proofs::Names::named_below))]
+pub fn add_line(alloc: Global, scenario: &mut Scenario, line: Line) -> Result<(), NoMemory>
+    requires nodes { length scenario.old.graph.nodes ≤ 64 }
+    requires edges { length scenario.old.graph.edges ≤ 256 }
+    requires packets { length scenario.old.packets ≤ 1024 }
+    requires named { is_named scenario.old (meaning line) ≡ true }
+    ensures { OnOk result (scenario.new ≡ with_said scenario.old (meaning line.entry)) }
+{
+    match line {
+        Line::Node(kind) => add_node(scenario, kind),
+        Line::Line { upper, lower } => add_edge(scenario, upper as u8, lower as u8),
+        Line::Link { upper, lower } => add_edge(scenario, upper as u8, lower as u8),
+        Line::Packet { identifier } => add_packet(alloc, scenario, identifier),
+        Line::Write { author, packet } => {
+            let author = author as u8;
+            let packet = packet as u16;
+            add_event(scenario, Event::Write { author, packet })
+        }
+        Line::Send { edge } => add_event(scenario, Event::Send { edge: edge as u16 }),
+        Line::Down { edge } => add_event(scenario, Event::Down { edge: edge as u16 }),
+        Line::Up { edge } => add_event(scenario, Event::Up { edge: edge as u16 }),
+    }
+}

@@ -1,0 +1,121 @@
+//! Why a line is refused.
+
+ghost use Rattle.std.specs.Prelude.{◌≡◌, IfErr, IfOk, None, Some};
+ghost use Rattle.voe_scenario.specs.Graphs.{is_kind as is_kind_at, joins_line as joins_line_at, joins_link as joins_link_at};
+ghost use Rattle.voe_scenario.specs.Lines.{meaning};
+ghost use Rattle.voe_scenario.specs.Refusals.{broken_rules, is_named as is_named_in, is_set_up as is_set_up_line, is_within as is_within_limits, least_that_holds};
+ghost use Rattle.voe_scenario.specs.Taking.{IsFitting, number_of_fault};
+
+use crate::line::{Line, read_line};
+use crate::scenario::Scenario;
+use voe_values::{Listing, NodeKind};
+
+/// Which rule a line breaks.
+#[derive(Clone, Copy)]
+pub enum LineFault {
+    /// It is no line of the grammar, or stands behind the first event.
+    Grammar,
+    /// A number names nothing.
+    Unnamed,
+    /// It passes a limit.
+    Limit,
+}
+
+/// The number that is shown for a broken rule.
+pub fn number_of(fault: LineFault) -> u8
+    ensures { result ≡ number_of_fault fault }
+{
+    match fault {
+        LineFault::Grammar => 1,
+        LineFault::Unnamed => 2,
+        LineFault::Limit => 3,
+    }
+}
+
+/// Tells whether there is such a node, and it is of this kind.
+#[tactic(auto, unfolding(crate::specs::Graphs::is_kind))]
+fn is_kind(nodes: &Listing<NodeKind>, at: u32, kind: NodeKind) -> bool
+    ensures { result ≡ is_kind_at nodes.now at kind }
+{
+    match nodes.get(at as usize) {
+        Some(found) => *found == kind,
+        None => false,
+    }
+}
+
+fn joins_line(nodes: &Listing<NodeKind>, upper: u32, lower: u32) -> bool
+    ensures { result ≡ joins_line_at nodes.now upper lower }
+{
+    is_kind(nodes, upper, NodeKind::Author) && is_kind(nodes, lower, NodeKind::Broker)
+}
+
+fn joins_link(nodes: &Listing<NodeKind>, upper: u32, lower: u32) -> bool
+    ensures { result ≡ joins_link_at nodes.now upper lower }
+{
+    is_kind(nodes, upper, NodeKind::Broker)
+        && (is_kind(nodes, lower, NodeKind::Broker)
+            || is_kind(nodes, lower, NodeKind::Subscriber))
+}
+
+/// Tells whether a line may stand only before the first event.
+fn is_set_up(line: Line) -> bool
+    ensures { result ≡ is_set_up_line (meaning line.entry) }
+{
+    match line {
+        Line::Node(_) | Line::Line { .. } | Line::Link { .. } | Line::Packet { .. } => true,
+        Line::Write { .. } | Line::Send { .. } | Line::Down { .. } | Line::Up { .. } => false,
+    }
+}
+
+/// Tells whether each number of a line names what is there.
+fn is_named(before: &Scenario, line: Line) -> bool
+    ensures { result ≡ is_named_in before.now (meaning line.entry) }
+{
+    let graph = &before.graph;
+    match line {
+        Line::Node(_) | Line::Packet { .. } => true,
+        Line::Line { upper, lower } => joins_line(&graph.nodes, upper, lower),
+        Line::Link { upper, lower } => joins_link(&graph.nodes, upper, lower),
+        Line::Write { author, packet } => {
+            is_kind(&graph.nodes, author, NodeKind::Author)
+                && (packet as usize) < before.packets.len()
+        }
+        Line::Send { edge } | Line::Down { edge } | Line::Up { edge } => {
+            (edge as usize) < graph.edges.len()
+        }
+    }
+}
+
+/// Tells whether what a line adds stays within the limits.
+fn is_within(before: &Scenario, line: Line) -> bool
+    ensures { result ≡ is_within_limits before.now (meaning line.entry) }
+{
+    match line {
+        Line::Node(_) => before.graph.nodes.len() < 64,
+        Line::Line { .. } | Line::Link { .. } => before.graph.edges.len() < 256,
+        Line::Packet { identifier } => identifier.len() <= 512 && before.packets.len() < 1024,
+        Line::Write { .. } | Line::Send { .. } | Line::Down { .. } | Line::Up { .. } => {
+            before.events.len() < 1_000_000
+        }
+    }
+}
+
+/// What a line says, or the rule of the least number that it breaks.
+pub fn judge<'a>(before: &Scenario, line: &'a [u8]) -> Result<Line<'a>, LineFault>
+    ensures fits { IfOk result (λ said. IsFitting before.now line.now (meaning said)) }
+    ensures broken { IfErr result (λ fault. least_that_holds (broken_rules before.now line.now) ≡ Some (number_of_fault fault)) }
+{
+    let Some(said) = read_line(line) else {
+        return Err(LineFault::Grammar);
+    };
+    if is_set_up(said) && !before.events.is_empty() {
+        return Err(LineFault::Grammar);
+    }
+    if !is_named(before, said) {
+        return Err(LineFault::Unnamed);
+    }
+    if line.len() > 2048 || !is_within(before, said) {
+        return Err(LineFault::Limit);
+    }
+    Ok(said)
+}

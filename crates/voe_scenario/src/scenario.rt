@@ -1,0 +1,12 @@
+//! What a text of a scenario gives.
+
+use net_model::{Event, Graph};
+use voe_values::{Bytes, Listing};
+
+/// A graph, the packets that its authors may write, and the events in order.
+#[derive(Drop)]
+pub struct Scenario {
+    pub graph: Graph,
+    pub packets: Listing<Bytes>,
+    pub events: Listing<Event>,
+}

@@ -1,0 +1,66 @@
+//! Pieces of a text, and numbers.
+
+ghost use Rattle.std.specs.Prelude.{◌≡◌, ◌<◌, ◌∷◌, ◌==◌, [], true, ◌≤◌, IfSome, MatchOption, length};
+ghost use Rattle.std.specs.List.{slice_split, list_all};
+ghost use Rattle.voe_scenario.specs.Words.{is_digit as is_digit_byte, is_number as is_number_word, number_of, value_of};
+
+use memchr::memchr;
+
+/// What stands before the first such byte, and what stands behind it, if the byte is there.
+pub fn cut(bytes: &[u8], byte: u8) -> (&[u8], Option<&[u8]>)
+    ensures pieces { MatchOption result.1 (slice_split (λ b. b == byte) bytes.now ≡ result.0.now ∷ []) (λ rest. slice_split (λ b. b == byte) bytes.now ≡ result.0.now ∷ slice_split (λ b. b == byte) rest.now) }
+    ensures shorter { IfSome result.1 (λ rest. length rest.now < length bytes.now) }
+{
+    match memchr(byte, bytes) {
+        Some(end) => (&bytes[..end], Some(&bytes[end + 1..])),
+        None => (bytes, None),
+    }
+}
+
+fn is_digit(byte: u8) -> bool
+    ensures { result ≡ is_digit_byte byte }
+{
+    byte.is_ascii_digit()
+}
+
+fn all_digits(word: &[u8]) -> bool
+    ensures { result ≡ list_all is_digit_byte word.now }
+{
+    word.iter().all(|digit| is_digit(*digit))
+}
+
+/// Tells whether a word is `0`, or up to seven digits that don't begin with 0.
+#[tactic(auto, unfolding(crate::specs::Words::is_number))]
+fn is_number(word: &[u8]) -> bool
+    ensures { result ≡ is_number_word word.now }
+{
+    match word {
+        [] => false,
+        [b'0', _, ..] => false,
+        _ => word.len() <= 7 && all_digits(word),
+    }
+}
+
+/// What up to seven digits say.
+fn value(digits: &[u8]) -> u32
+    requires few { length digits.now ≤ 7 }
+    requires digits { list_all is_digit_byte digits.now ≡ true }
+    ensures { result ≡ value_of digits.now }
+{
+    let mut value: u32 = 0;
+    for digit in digits {
+        value = value * 10 + u32::from(*digit - b'0');
+    }
+    value
+}
+
+/// The number that a word is, below ten million, if it is one.
+pub fn number(word: &[u8]) -> Option<u32>
+    ensures { result ≡ number_of word.now }
+{
+    if is_number(word) {
+        Some(value(word))
+    } else {
+        None
+    }
+}
