@@ -16,8 +16,10 @@ use Rattle.voe_scenario.specs.Grammar.{Said, says_node, says_line, says_link, sa
 use Rattle.voe_scenario.specs.Graphs.{is_kind}
 use Rattle.voe_scenario.specs.Refusals.{breaks_grammar, is_named, is_within}
 use Rattle.voe_scenario.specs.Scenarios.{nothing_yet, with_said, with_edge, with_event}
-use Rattle.voe_scenario.specs.Sound.{IsJoined, IsNamed, IsShort, IsSound}
-use Rattle.voe_scenario.proofs.Names.{both, is_kind-true, joins_line-true, joins_link-true}
+use Rattle.net_model.specs.declared.scenario.Graph.{Graph}
+use Rattle.net_model.specs.Draining.{IsProper}
+use Rattle.voe_scenario.specs.Sound.{IsNamed, IsShort, IsSound}
+use Rattle.voe_scenario.proofs.Names.{IsJoined, both, is_kind-true, joins_line-true, joins_link-true}
 
 below : (m n : ℕ) → nat_lt m n ≡ true → m < n
 below m n is = grind (arith, nat_tests)
@@ -43,11 +45,33 @@ joined_pushed nodes kind edge (inl ends) =
     inl (kind_pushed nodes kind Author edge.upper ends.0, kind_pushed nodes kind Broker edge.lower ends.1)
 joined_pushed nodes kind edge (inr ends) =
     let lower : (slice_get (nodes ++ kind ∷ []) edge.lower ≡ Some Broker) ⊎ (slice_get (nodes ++ kind ∷ []) edge.lower ≡ Some Subscriber) =
-        elim (ends.1) [
-          inl a ↦ inl (kind_pushed nodes kind Broker edge.lower a)
-        | inr b ↦ inr (kind_pushed nodes kind Subscriber edge.lower b)
-        ] in
+    elim (ends.1) [
+      | inl a ↦ inl (kind_pushed nodes kind Broker edge.lower a)
+      | inr b ↦ inr (kind_pushed nodes kind Subscriber edge.lower b)
+    ] in
     inr (kind_pushed nodes kind Broker edge.upper ends.0, lower)
+
+-- an element is one of those before, or the last
+pushed_get : {A : Type 0} (xs : List A) (x : A) (at : ℕ) (y : A) → slice_get (xs ++ x ∷ []) at ≡ Some y → (slice_get xs at ≡ Some y) ⊎ (y ≡ x)
+pushed_get [] x zero y is = inr (cc)
+pushed_get [] x (suc at) y is = cc
+pushed_get (z ∷ xs) x zero y is = inl is
+pushed_get (z ∷ xs) x (suc at) y is = pushed_get xs x at y is
+
+proper_edge : (graph : Graph) (edge : Edge) → IsProper graph → IsJoined graph.nodes edge → IsProper (record graph { edges = graph.edges ++ edge ∷ [] })
+proper_edge graph edge proper joined = record {
+  ends = λ e found is. elim (pushed_get graph.edges edge e found is) [
+    | inl before ↦ proper.ends e found before
+    | inr same ↦ rw same joined
+  ];
+  window = proper.window;
+}
+
+proper_node : (graph : Graph) (kind : NodeKind) → IsProper graph → IsProper (record graph { nodes = graph.nodes ++ kind ∷ [] })
+proper_node graph kind proper = record {
+  ends = λ e found is. joined_pushed graph.nodes kind found (proper.ends e found is);
+  window = proper.window;
+}
 
 edge_kept : (before : Scenario) (edge : Edge) → IsSound before → nat_lt 0 (length before.events) ≡ false
     → IsJoined before.graph.nodes edge → nat_lt (length before.graph.edges) 256 ≡ true → IsSound (with_edge before edge.upper edge.lower)
@@ -57,7 +81,7 @@ edge_kept before edge sound placed joined within = record {
   packets = sound.packets;
   events = sound.events;
   window = sound.window;
-  joined = All-push (IsJoined before.graph.nodes) before.graph.edges edge sound.joined joined;
+  proper = proper_edge before.graph edge sound.proper joined;
   named = all_of_none (IsNamed (with_edge before edge.upper edge.lower).graph (with_edge before edge.upper edge.lower).packets) before.events (no_event (length before.events) placed);
   short = sound.short;
 }
@@ -70,7 +94,7 @@ event_kept before event sound named within = record {
   packets = sound.packets;
   events = pushed before.events event 1000000 within;
   window = sound.window;
-  joined = sound.joined;
+  proper = sound.proper;
   named = All-push (IsNamed before.graph before.packets) before.events event sound.named named;
   short = sound.short;
 }
@@ -132,7 +156,7 @@ kept before (says_node kind) sound spoken placed named within =
       packets = sound.packets;
       events = sound.events;
       window = sound.window;
-      joined = λ k d h. joined_pushed before.graph.nodes kind _ (sound.joined k d h);
+      proper = proper_node before.graph kind sound.proper;
       named = all_of_none (IsNamed (with_said before said).graph (with_said before said).packets) before.events (no_event (length before.events) placed);
       short = sound.short;
     }
@@ -151,7 +175,7 @@ kept before (says_packet identifier) sound spoken placed named within =
       packets = pushed before.packets identifier 1024 parts.1;
       events = sound.events;
       window = sound.window;
-      joined = sound.joined;
+      proper = sound.proper;
       named = all_of_none (IsNamed (with_said before said).graph (with_said before said).packets) before.events (no_event (length before.events) placed);
       short = All-push IsShort before.packets identifier sound.short (spoken, leb-true (length identifier) 512 parts.0);
     }
@@ -172,7 +196,7 @@ nothing_sound = record {
   packets = omega arith;
   events = omega arith;
   window = refl;
-  joined = λ k d h. absurd (omega arith);
+  proper = record { ends = λ e edge is. absurd (cc); window = omega arith };
   named = λ k d h. absurd (omega arith);
   short = λ k d h. absurd (omega arith);
 }

@@ -6,7 +6,13 @@ use Rattle.voe_values.specs.declared.kind.NodeKind.{NodeKind}
 use Rattle.voe_values.specs.declared.kind.NodeKind.TheVariants.{Author, Broker, Subscriber}
 use Rattle.net_model.specs.declared.scenario.Edge.{Edge}
 use Rattle.voe_scenario.specs.Graphs.{same_kind, kind_is, is_kind, joins_line, joins_link}
-use Rattle.voe_scenario.specs.Sound.{IsJoined}
+
+-- an edge leads from an author to a broker, or from a broker to a broker or a subscriber
+abbrev pub IsJoined : List NodeKind → Edge → Type 0
+IsJoined nodes edge =
+    ((slice_get nodes edge.upper ≡ Some Author) × (slice_get nodes edge.lower ≡ Some Broker))
+    ⊎ ((slice_get nodes edge.upper ≡ Some Broker)
+    × ((slice_get nodes edge.lower ≡ Some Broker) ⊎ (slice_get nodes edge.lower ≡ Some Subscriber)))
 
 -- both of two tests hold
 pub both : (a b : Bool) → (a && b) ≡ true → (a ≡ true) × (b ≡ true)
@@ -52,10 +58,10 @@ pub joins_link-true : (nodes : List NodeKind) (edge : Edge) → joins_link nodes
 joins_link-true nodes edge is =
     let ends = both (is_kind nodes edge.upper Broker) (is_kind nodes edge.lower Broker || is_kind nodes edge.lower Subscriber) is in
     let lower : (slice_get nodes edge.lower ≡ Some Broker) ⊎ (slice_get nodes edge.lower ≡ Some Subscriber) =
-        elim (either (is_kind nodes edge.lower Broker) (is_kind nodes edge.lower Subscriber) ends.1) [
-          inl a ↦ inl (is_kind-true nodes edge.lower Broker a)
-        | inr b ↦ inr (is_kind-true nodes edge.lower Subscriber b)
-        ] in
+    elim (either (is_kind nodes edge.lower Broker) (is_kind nodes edge.lower Subscriber) ends.1) [
+      | inl a ↦ inl (is_kind-true nodes edge.lower Broker a)
+      | inr b ↦ inr (is_kind-true nodes edge.lower Subscriber b)
+    ] in
     inr (is_kind-true nodes edge.upper Broker ends.0, lower)
 
 -- the two ends of a line or a link are nodes
@@ -68,8 +74,8 @@ pub link_below : (nodes : List NodeKind) (upper lower : ℕ) → joins_link node
 link_below nodes upper lower is =
     let ends = both (is_kind nodes upper Broker) (is_kind nodes lower Broker || is_kind nodes lower Subscriber) is in
     let low : lower < length nodes =
-        elim (either (is_kind nodes lower Broker) (is_kind nodes lower Subscriber) ends.1) [
-          inl a ↦ named_below nodes lower Broker a
-        | inr b ↦ named_below nodes lower Subscriber b
-        ] in
+    elim (either (is_kind nodes lower Broker) (is_kind nodes lower Subscriber) ends.1) [
+      | inl a ↦ named_below nodes lower Broker a
+      | inr b ↦ named_below nodes lower Subscriber b
+    ] in
     (named_below nodes upper Broker ends.0, low)

@@ -22,7 +22,7 @@ number_digits [] is = absurd (false≢true is)
 number_digits (digit ∷ []) is = is
 number_digits (digit ∷ second ∷ others) is =
     let leading : (b : Bool) → cond b false (has_digits (digit ∷ second ∷ others)) ≡ true → has_digits (digit ∷ second ∷ others) ≡ true
-        = λ b. elim b as (λ b. cond b false (has_digits (digit ∷ second ∷ others)) ≡ true → has_digits (digit ∷ second ∷ others) ≡ true) [ true ↦ λ is. absurd (false≢true is) | false ↦ λ is. is ] in
+    = λ b. elim b as (λ b. cond b false (has_digits (digit ∷ second ∷ others)) ≡ true → has_digits (digit ∷ second ∷ others) ≡ true) [ true ↦ λ is. absurd (false≢true is) | false ↦ λ is. is ] in
     leading (digit == 48) is
 
 -- both of two tests hold

@@ -1,7 +1,7 @@
 -- the text of a scenario
 pub mod Words
 pub mod Grammar
-pub mod Lines
+pub mod Statements
 pub mod Graphs
 pub mod Refusals
 pub mod Taking

@@ -2,20 +2,23 @@
 
 ghost use Rattle.std.specs.Prelude.{◌≡◌, IfErr, IfOk, None, Some};
 ghost use Rattle.voe_scenario.specs.Graphs.{is_kind as is_kind_at, joins_line as joins_line_at, joins_link as joins_link_at};
-ghost use Rattle.voe_scenario.specs.Lines.{meaning};
+ghost use Rattle.voe_scenario.specs.Statements.{meaning};
 ghost use Rattle.voe_scenario.specs.Refusals.{broken_rules, is_named as is_named_in, is_set_up as is_set_up_line, is_within as is_within_limits, least_that_holds};
 ghost use Rattle.voe_scenario.specs.Taking.{IsFitting, number_of_fault};
 
-use crate::line::{Line, read_line};
+use crate::limits::{
+    EDGES_LIMIT, EVENTS_LIMIT, IDENTIFIER_LIMIT, LINE_LIMIT, NODES_LIMIT, PACKETS_LIMIT,
+};
 use crate::scenario::Scenario;
+use crate::statement::{Statement, read_statement};
 use voe_values::{Listing, NodeKind};
 
 /// Which rule a line breaks.
 #[derive(Clone, Copy)]
 pub enum LineFault {
-    /// It is no line of the grammar, or stands behind the first event.
+    /// It is no line of the grammar, or a set-up line behind the first event.
     Grammar,
-    /// A number names nothing.
+    /// A number names nothing of its kind among what earlier lines brought.
     Unnamed,
     /// It passes a limit.
     Limit,
@@ -53,59 +56,66 @@ fn joins_link(nodes: &Listing<NodeKind>, upper: u32, lower: u32) -> bool
     ensures { result ≡ joins_link_at nodes.now upper lower }
 {
     is_kind(nodes, upper, NodeKind::Broker)
-        && (is_kind(nodes, lower, NodeKind::Broker)
-            || is_kind(nodes, lower, NodeKind::Subscriber))
+        && (is_kind(nodes, lower, NodeKind::Broker) || is_kind(nodes, lower, NodeKind::Subscriber))
 }
 
 /// Tells whether a line may stand only before the first event.
-fn is_set_up(line: Line) -> bool
-    ensures { result ≡ is_set_up_line (meaning line.entry) }
+fn is_set_up(statement: Statement) -> bool
+    ensures { result ≡ is_set_up_line (meaning statement.entry) }
 {
-    match line {
-        Line::Node(_) | Line::Line { .. } | Line::Link { .. } | Line::Packet { .. } => true,
-        Line::Write { .. } | Line::Send { .. } | Line::Down { .. } | Line::Up { .. } => false,
+    match statement {
+        Statement::Node(_)
+        | Statement::Line { .. }
+        | Statement::Link { .. }
+        | Statement::Packet { .. } => true,
+        Statement::Write { .. }
+        | Statement::Send { .. }
+        | Statement::Down { .. }
+        | Statement::Up { .. } => false,
     }
 }
 
 /// Tells whether each number of a line names what is there.
-fn is_named(before: &Scenario, line: Line) -> bool
-    ensures { result ≡ is_named_in before.now (meaning line.entry) }
+fn is_named(before: &Scenario, statement: Statement) -> bool
+    ensures { result ≡ is_named_in before.now (meaning statement.entry) }
 {
     let graph = &before.graph;
-    match line {
-        Line::Node(_) | Line::Packet { .. } => true,
-        Line::Line { upper, lower } => joins_line(&graph.nodes, upper, lower),
-        Line::Link { upper, lower } => joins_link(&graph.nodes, upper, lower),
-        Line::Write { author, packet } => {
+    match statement {
+        Statement::Node(_) | Statement::Packet { .. } => true,
+        Statement::Line { upper, lower } => joins_line(&graph.nodes, upper, lower),
+        Statement::Link { upper, lower } => joins_link(&graph.nodes, upper, lower),
+        Statement::Write { author, packet } => {
             is_kind(&graph.nodes, author, NodeKind::Author)
                 && (packet as usize) < before.packets.len()
         }
-        Line::Send { edge } | Line::Down { edge } | Line::Up { edge } => {
+        Statement::Send { edge } | Statement::Down { edge } | Statement::Up { edge } => {
             (edge as usize) < graph.edges.len()
         }
     }
 }
 
 /// Tells whether what a line adds stays within the limits.
-fn is_within(before: &Scenario, line: Line) -> bool
-    ensures { result ≡ is_within_limits before.now (meaning line.entry) }
+fn is_within(before: &Scenario, statement: Statement) -> bool
+    ensures { result ≡ is_within_limits before.now (meaning statement.entry) }
 {
-    match line {
-        Line::Node(_) => before.graph.nodes.len() < 64,
-        Line::Line { .. } | Line::Link { .. } => before.graph.edges.len() < 256,
-        Line::Packet { identifier } => identifier.len() <= 512 && before.packets.len() < 1024,
-        Line::Write { .. } | Line::Send { .. } | Line::Down { .. } | Line::Up { .. } => {
-            before.events.len() < 1_000_000
-        }
+    match statement {
+        Statement::Node(_) => before.graph.nodes.len() < NODES_LIMIT,
+        Statement::Line { .. } | Statement::Link { .. } => before.graph.edges.len() < EDGES_LIMIT,
+        Statement::Packet { identifier } => identifier.len() <= IDENTIFIER_LIMIT
+            && before.packets.len() < PACKETS_LIMIT,
+        Statement::Write { .. }
+        | Statement::Send { .. }
+        | Statement::Down { .. }
+        | Statement::Up { .. } => { before.events.len() < EVENTS_LIMIT }
     }
 }
 
 /// What a line says, or the rule of the least number that it breaks.
-pub fn judge<'a>(before: &Scenario, line: &'a [u8]) -> Result<Line<'a>, LineFault>
+pub fn judge<'a>(before: &Scenario, line: &'a [u8]) -> Result<Statement<'a>, LineFault>
     ensures fits { IfOk result (λ said. IsFitting before.now line.now (meaning said)) }
     ensures broken { IfErr result (λ fault. least_that_holds (broken_rules before.now line.now) ≡ Some (number_of_fault fault)) }
 {
-    let Some(said) = read_line(line) else {
+    let Some(said) = read_statement(line) else {
         return Err(LineFault::Grammar);
     };
     if is_set_up(said) && !before.events.is_empty() {
@@ -114,7 +124,7 @@ pub fn judge<'a>(before: &Scenario, line: &'a [u8]) -> Result<Line<'a>, LineFaul
     if !is_named(before, said) {
         return Err(LineFault::Unnamed);
     }
-    if line.len() > 2048 || !is_within(before, said) {
+    if line.len() > LINE_LIMIT || !is_within(before, said) {
         return Err(LineFault::Limit);
     }
     Ok(said)

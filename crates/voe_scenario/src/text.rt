@@ -7,8 +7,9 @@ ghost use Rattle.voe_scenario.specs.Sound.{IsSound};
 ghost use Rattle.voe_scenario.specs.Taking.{IsRefusedBy, IsTaken};
 ghost use Rattle.voe_scenario.specs.Words.{lines_of};
 
-use crate::add::add_line;
+use crate::add::add_statement;
 use crate::judge::{judge, number_of};
+use crate::limits::TEXT_LIMIT;
 use crate::scenario::Scenario;
 use crate::words::cut;
 use net_model::Graph;
@@ -57,7 +58,7 @@ fn take_line(
             number: number_of(fault),
             line: number,
         }),
-        Ok(said) => match add_line(alloc, scenario, said) {
+        Ok(said) => match add_statement(alloc, scenario, said) {
             Ok(()) => Ok(()),
             Err(_) => Err(ScenarioFault::NoMemory),
         },
@@ -83,14 +84,15 @@ fn take_lines(alloc: Global, scenario: &mut Scenario, text: &[u8]) -> Result<(),
     Ok(())
 }
 
-/// Reads the text of a scenario, which is given up to 33,554,433 bytes, one more than it may have.
+/// Reads the text of a scenario, of which at most 33,554,433 bytes are given: one more than it may have tells that it
+/// is too long. The scenario is within the limits, and its edges and events name only what it has.
 pub fn read_scenario(alloc: Global, bytes: &[u8]) -> Result<Scenario, ScenarioFault>
     requires { length bytes.now ≤ 33554433 }
     ensures ok { IfOk result (λ scenario. scenario_of bytes.now ≡ Ok scenario) }
     ensures sound { IfOk result IsSound }
     ensures refused { IfErr result (IsRefusalOf (scenario_of bytes.now)) }
 {
-    if bytes.len() > 33_554_432 {
+    if bytes.len() > TEXT_LIMIT {
         return Err(ScenarioFault::Refused { number: 3, line: 0 });
     }
     let mut scenario = Scenario {
