@@ -1,5 +1,5 @@
 -- Numbers by their digits.
-use Rattle.std.proofs.Common.{◌≡◌, ℕ, zero, suc, ◌+◌, ◌-◌, ◌*◌, ◌^◌, ◌<◌, ◌≤◌, ◌==◌, ◌&&◌, Bool, true, false, List, [], ◌∷◌, length, cond, arith, lit≤, nat_le, refl}
+use Rattle.std.proofs.Common.{◌≡◌, ℕ, zero, suc, ◌^◌, ◌≤◌, ◌==◌, ◌&&◌, Bool, true, false, List, [], ◌∷◌, length, cond, arith, lit≤, nat_le, refl}
 use Rattle.std.proofs.lemmas.Bool.{false≢true, leb-true}
 use Rattle.std.specs.List.{list_all}
 use Rattle.voe_scenario.specs.Words.{is_number, is_digit, has_digits}

@@ -1,10 +1,10 @@
 -- Where a text is cut.
-use Rattle.std.proofs.Common.{◌≡◌, ℕ, zero, suc, ◌+◌, ◌-◌, ◌<◌, ◌==◌, true, false, Bool, List, [], ◌∷◌, length, slice_index, take, drop, refl, arith, ap, ◌∙◌, sym}
-use Rattle.std.proofs.Common.{Option, None}
+use Rattle.std.proofs.Common.{◌≡◌, ℕ, zero, suc, ◌+◌, ◌-◌, ◌<◌, ◌==◌, true, false, Bool, List, [], ◌∷◌, length, slice_index, take, drop, refl, arith, ap, ◌∙◌}
+use Rattle.std.proofs.Common.{None}
 use Rattle.std.specs.List.{slice_split, onto_first, count_by}
 use Rattle.std.proofs.lemmas.List.{take_all, length-drop}
 use Rattle.std.proofs.lemmas.List.Splits.{slice_split-cons_yes, slice_split-cons_no, length-slice_split}
-use Rattle.voe_scenario.specs.Grammar.{Said, words_said}
+use Rattle.voe_scenario.specs.Grammar.{words_said}
 
 -- an element that isn't true is false
 is_false : (b : Bool) → ((b ≡ true) → ⊥) → b ≡ false

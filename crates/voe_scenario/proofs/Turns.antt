@@ -1,12 +1,12 @@
 -- Lines one after another.
-use Rattle.std.proofs.Common.{◌≡◌, ℕ, ◌+◌, ◌<◌, ◌≤◌, List, [], ◌∷◌, Option, Some, None, Result, Ok, Err, MatchOption, IfSome, length, refl, sym, ◌∙◌, arith, Bor, ◌==◌}
+use Rattle.std.proofs.Common.{◌≡◌, ℕ, ◌+◌, ◌<◌, List, [], ◌∷◌, Option, Some, None, Result, Ok, Err, MatchOption, IfSome, length, refl, sym, ◌∙◌, arith, Bor, ◌==◌}
 use Rattle.std.specs.List.{slice_split}
 use Rattle.voe_scenario.specs.declared.scenario.Scenario.{Scenario}
 use Rattle.voe_scenario.specs.declared.text.ScenarioFault.{ScenarioFault}
 use Rattle.voe_scenario.specs.declared.text.ScenarioFault.TheVariants.{Refused, NoMemory}
 use Rattle.voe_scenario.specs.Grammar.{Said}
 use Rattle.voe_scenario.specs.Refusals.{refusal_of}
-use Rattle.voe_scenario.specs.Scenarios.{read_from, with_line, with_said, Refusal, IsRefusalOf}
+use Rattle.voe_scenario.specs.Scenarios.{read_from, with_said, Refusal, IsRefusalOf}
 use Rattle.voe_scenario.specs.Sound.{IsSound}
 use Rattle.voe_scenario.specs.Taking.{IsFitting, IsTaken, IsRefusedBy}
 use Rattle.voe_scenario.specs.Words.{lines_of}

@@ -1,5 +1,5 @@
 -- How the code's parts answer.
-use Rattle.std.specs.Prelude.{◌≡◌, ℕ, Bool, true, false, List, Option, Some, None}
+use Rattle.std.specs.Prelude.{◌≡◌, ℕ, true, false, List, Option, Some, None}
 use Rattle.voe_scenario.specs.declared.scenario.Scenario.{Scenario}
 use Rattle.voe_scenario.specs.declared.judge.LineFault.{LineFault}
 use Rattle.voe_scenario.specs.declared.judge.LineFault.TheVariants.{Grammar, Unnamed, Limit}

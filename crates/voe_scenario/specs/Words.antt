@@ -1,5 +1,5 @@
 -- Lines, words and numbers.
-use Rattle.std.specs.Prelude.{ℕ, ◌+◌, ◌-◌, ◌*◌, cond, Bool, true, false, List, [], ◌∷◌, Option, Some, None, length, ◌==◌, ◌&&◌, ◌||◌, nat_le, fold}
+use Rattle.std.specs.Prelude.{ℕ, ◌+◌, ◌-◌, ◌*◌, cond, Bool, false, List, [], ◌∷◌, Option, Some, None, length, ◌==◌, ◌&&◌, nat_le, fold}
 use Rattle.std.specs.List.{slice_split, list_all}
 
 -- a line feed ends each line, but the last may lack it

@@ -1,5 +1,5 @@
 -- A fourth word ends the grammar.
-use Rattle.std.proofs.Common.{◌≡◌, ◌==◌}
+use Rattle.std.proofs.Common.{◌==◌}
 use Rattle.voe_scenario.proofs.Pieces.{too_many_words}
 use Rattle.voe_scenario.proofs.statement.with_arguments.Goals as goal
 

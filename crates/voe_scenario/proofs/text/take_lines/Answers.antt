@@ -1,5 +1,5 @@
 -- A turn takes one line or is refused; at the end no line is left.
-use Rattle.std.proofs.Common.{◌≡◌, ◌+◌, ◌<◌, ◌≤◌, ◌∷◌, length, rules, arith, sym, ◌∙◌}
+use Rattle.std.proofs.Common.{◌+◌, ◌<◌, length, rules, arith, sym, ◌∙◌}
 use Rattle.voe_scenario.specs.Words.{lines_of}
 use Rattle.voe_scenario.proofs.Turns.{lines_left, left_of, lines_left-cut, left_of-cut, read_from-nil, read_from-taken, refusal_told}
 use Rattle.voe_scenario.proofs.text.take_lines.Goals as goal

@@ -1,5 +1,5 @@
 -- The pieces are those of the cut at the byte.
-use Rattle.std.proofs.Common.{◌≡◌, ◌+◌, ◌-◌, ◌<◌, length, drop, take, arith, add-one}
+use Rattle.std.proofs.Common.{◌+◌, arith, add-one}
 use Rattle.voe_scenario.proofs.Pieces.{split_at, split_none, take_rest}
 use Rattle.voe_scenario.proofs.words.cut.Goals as goal
 

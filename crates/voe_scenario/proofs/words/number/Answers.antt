@@ -1,5 +1,5 @@
 -- A number is made of up to seven digits.
-use Rattle.std.proofs.Common.{◌≡◌, ◌≤◌, sym, ◌∙◌}
+use Rattle.std.proofs.Common.{sym, ◌∙◌}
 use Rattle.voe_scenario.proofs.Numbers.{number_few, number_all}
 use Rattle.voe_scenario.proofs.words.number.Goals as goal
 

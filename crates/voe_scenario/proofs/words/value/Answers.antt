@@ -1,5 +1,5 @@
 -- Six digits and one more are below ten million.
-use Rattle.std.proofs.Common.{◌≡◌, ◌+◌, ◌-◌, ◌*◌, ◌^◌, ◌<◌, ◌≤◌, arith, rules}
+use Rattle.std.proofs.Common.{◌<◌, arith}
 use Rattle.voe_scenario.proofs.Numbers.{ten_to}
 use Rattle.voe_scenario.proofs.words.value.Goals as goal
 
