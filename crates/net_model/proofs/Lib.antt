@@ -1,3 +1,23 @@
 -- lemmas on the network
 pub mod Traffic
+pub mod Members
+pub mod Sound
+pub mod Held
+pub mod Growth
+pub mod Places
+pub mod Steps
+pub mod Events
+pub mod Kept
+pub mod Settled
+pub mod Sessions
+pub mod Counting
+pub mod Closed
+pub mod Turn
+pub mod Calm
+pub mod Restart
+pub mod Drained
+pub mod Emptied
+pub mod Delivered
+pub mod Room
+pub mod After
 pub mod Examples

@@ -11,7 +11,10 @@ mod scenario;
 mod state;
 mod step;
 
-pub use laws::traffic_continued;
+pub use laws::{
+    drained_state, every_drain, every_moment, every_state, run_with_room, settled_state,
+    still_round, traffic_continued,
+};
 pub use note::Note;
 pub use scenario::{Edge, Event, Graph, Inner};
 pub use state::{NakCode, Node, State, Verdict, Wire};
