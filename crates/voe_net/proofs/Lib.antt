@@ -1,0 +1,5 @@
+-- lemmas on the network that code steps
+pub mod Lists
+pub mod Numbered
+pub mod Replied
+pub mod Stepped

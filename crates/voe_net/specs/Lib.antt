@@ -1,0 +1,9 @@
+-- the definitions of the network that code steps
+pub mod Plain
+pub mod Index
+pub mod Replies
+pub mod Flights
+pub mod Start
+pub mod Owed
+pub mod Report
+pub mod Whole
