@@ -51,9 +51,9 @@ filtered = record open_links { passes = marked_at_three }
 edge : ℕ → ℕ → Edge
 edge upper lower = record { upper = upper; lower = lower }
 
--- an author, a broker and a subscriber in a row
-row : ℕ → Graph
-row window = record { nodes = Author ∷ Broker ∷ Subscriber ∷ []; edges = edge 0 1 ∷ edge 1 2 ∷ []; window = window }
+-- an author, a broker and a subscriber in a chain
+chain : ℕ → Graph
+chain window = record { nodes = Author ∷ Broker ∷ Subscriber ∷ []; edges = edge 0 1 ∷ edge 1 2 ∷ []; window = window }
 
 -- two brokers in a cycle, each with a subscriber
 cycle : Graph
@@ -88,46 +88,46 @@ p = 7 ∷ 0 ∷ []
 other : List ℕ
 other = 7 ∷ 1 ∷ []
 
-delivered_row : (events : List Event) → Type 0
-delivered_row events =
-    (notes_at (after open_links (row 1) (p ∷ []) events) 0 ≡ Wrote seven p ∷ Acked 0 seven ∷ [])
-    × (notes_at (after open_links (row 1) (p ∷ []) events) 1 ≡ Accept seven (0 ∷ []) p ∷ Done 0 seven ∷ [])
-    × (notes_at (after open_links (row 1) (p ∷ []) events) 2 ≡ Enter seven p ∷ [])
+delivered : (events : List Event) → Type 0
+delivered events =
+    (notes_at (after open_links (chain 1) (p ∷ []) events) 0 ≡ Wrote seven p ∷ Acked 0 seven ∷ [])
+    × (notes_at (after open_links (chain 1) (p ∷ []) events) 1 ≡ Accept seven (0 ∷ []) p ∷ Done 0 seven ∷ [])
+    × (notes_at (after open_links (chain 1) (p ∷ []) events) 2 ≡ Enter seven p ∷ [])
 
-drained_row : delivered_row (Write 0 0 ∷ Drain ∷ [])
-unfolding is_open lists judged open_links edge row seven p delivered_row
-drained_row = (refl, refl, refl)
+drained_chain : delivered (Write 0 0 ∷ Drain ∷ [])
+unfolding is_open lists judged open_links edge chain seven p delivered
+drained_chain = (refl, refl, refl)
 
-stepped_row : delivered_row (Write 0 0 ∷ Send 0 ∷ Down 0 ∷ Up 0 ∷ Send 1 ∷ Down 1 ∷ Up 1 ∷ [])
-unfolding is_open lists judged open_links edge row seven p delivered_row
-stepped_row = (refl, refl, refl)
+stepped_chain : delivered (Write 0 0 ∷ Send 0 ∷ Down 0 ∷ Up 0 ∷ Send 1 ∷ Down 1 ∷ Up 1 ∷ [])
+unfolding is_open lists judged open_links edge chain seven p delivered
+stepped_chain = (refl, refl, refl)
 
 -- a stopped delivery whose record is kept, or not
 stopped : ℕ → List Event
 stopped fill = Write 0 0 ∷ Send 0 ∷ Down 0 ∷ Up 0 ∷ Send 1 ∷ Stop 3 fill (InDown 1) ∷ []
 
-stop_kept : (notes_at (after open_links (row 1) (p ∷ []) (stopped 1)) 2 ≡ Enter seven p ∷ [])
-    × (notes_at (after open_links (row 1) (p ∷ []) (stopped 1)) 1 ≡ Accept seven (0 ∷ []) p ∷ [])
-    × (is_up (slice_get (after open_links (row 1) (p ∷ []) (stopped 1)).nodes 2) ≡ false)
-    × delivered_row (stopped 1 ++ Drain ∷ [])
-unfolding is_open lists judged open_links edge row seven p delivered_row stopped
+stop_kept : (notes_at (after open_links (chain 1) (p ∷ []) (stopped 1)) 2 ≡ Enter seven p ∷ [])
+    × (notes_at (after open_links (chain 1) (p ∷ []) (stopped 1)) 1 ≡ Accept seven (0 ∷ []) p ∷ [])
+    × (is_up (slice_get (after open_links (chain 1) (p ∷ []) (stopped 1)).nodes 2) ≡ false)
+    × delivered (stopped 1 ++ Drain ∷ [])
+unfolding is_open lists judged open_links edge chain seven p delivered stopped
 stop_kept = (refl, refl, refl, (refl, refl, refl))
 
-stop_lost : (notes_at (after open_links (row 1) (p ∷ []) (stopped 0)) 2 ≡ []) × delivered_row (stopped 0 ++ Drain ∷ [])
-unfolding is_open lists judged open_links edge row seven p delivered_row stopped
+stop_lost : (notes_at (after open_links (chain 1) (p ∷ []) (stopped 0)) 2 ≡ []) × delivered (stopped 0 ++ Drain ∷ [])
+unfolding is_open lists judged open_links edge chain seven p delivered stopped
 stop_lost = (refl, (refl, refl, refl))
 
 -- an acknowledgement that a cut lost
-cut_answer : (notes_at (after open_links (row 1) (p ∷ []) (Write 0 0 ∷ Send 0 ∷ Down 0 ∷ Up 0 ∷ Send 1 ∷ Down 1 ∷ Cut 1 ∷ [])) 1 ≡ Accept seven (0 ∷ []) p ∷ [])
-    × delivered_row (Write 0 0 ∷ Send 0 ∷ Down 0 ∷ Up 0 ∷ Send 1 ∷ Down 1 ∷ Cut 1 ∷ Drain ∷ [])
-unfolding is_open lists judged open_links edge row seven p delivered_row
+cut_answer : (notes_at (after open_links (chain 1) (p ∷ []) (Write 0 0 ∷ Send 0 ∷ Down 0 ∷ Up 0 ∷ Send 1 ∷ Down 1 ∷ Cut 1 ∷ [])) 1 ≡ Accept seven (0 ∷ []) p ∷ [])
+    × delivered (Write 0 0 ∷ Send 0 ∷ Down 0 ∷ Up 0 ∷ Send 1 ∷ Down 1 ∷ Cut 1 ∷ Drain ∷ [])
+unfolding is_open lists judged open_links edge chain seven p delivered
 cut_answer = (refl, (refl, refl, refl))
 
 -- a window of two
-window_of_two : (notes_at (after open_links (row 2) ((4 ∷ []) ∷ (5 ∷ []) ∷ (6 ∷ []) ∷ [])
+window_of_two : (notes_at (after open_links (chain 2) ((4 ∷ []) ∷ (5 ∷ []) ∷ (6 ∷ []) ∷ [])
     (Write 0 0 ∷ Write 0 1 ∷ Write 0 2 ∷ Send 0 ∷ Send 0 ∷ Send 0 ∷ Down 0 ∷ Down 0 ∷ Down 0 ∷ [])) 1
     ≡ Accept (4 ∷ []) (0 ∷ []) (4 ∷ []) ∷ Accept (5 ∷ []) (0 ∷ []) (5 ∷ []) ∷ [])
-unfolding is_open lists judged open_links edge row
+unfolding is_open lists judged open_links edge chain
 window_of_two = refl
 
 -- around the cycle each node holds the packet once
@@ -161,23 +161,23 @@ one_refused : (notes_at (after open_links shared (p ∷ other ∷ []) (Write 0 0
 unfolding is_open lists judged open_links edge shared seven p other
 one_refused = (refl, refl, refl)
 
--- the last sessions of the broker in the row after these events
+-- the last sessions of the broker in the chain after these events
 sessions_after : List Event → Option (List ℕ)
-sessions_after events = option_map (λ node. node.sessions) (slice_get (after open_links (row 1) [] events).nodes 1)
+sessions_after events = option_map (λ node. node.sessions) (slice_get (after open_links (chain 1) [] events).nodes 1)
 
 -- the start and each connection join a session, and a crash forgets them
 joined_sessions : (sessions_after [] ≡ Some (1 ∷ [])) × (sessions_after (Cut 1 ∷ Connect 1 ∷ []) ≡ Some (2 ∷ []))
     × (sessions_after (Cut 1 ∷ Connect 1 ∷ Drain ∷ []) ≡ Some (3 ∷ [])) × (sessions_after (Cut 1 ∷ Connect 1 ∷ Crash 1 ∷ []) ≡ Some (0 ∷ []))
     × (sessions_after (Crash 1 ∷ Reopen 1 ∷ Connect 0 ∷ Connect 1 ∷ []) ≡ Some (1 ∷ []))
-unfolding is_open lists judged open_links edge row sessions_after
+unfolding is_open lists judged open_links edge chain sessions_after
 joined_sessions = (refl, refl, refl, refl, refl)
 
 -- a drain starts with all nodes up and all edges connected anew, in new sessions
 started : State → List Wire → Type 0
 started state wires = (state.wires ≡ wires) × (map (λ node. node.up) state.nodes ≡ true ∷ true ∷ true ∷ []) × (map (λ node. node.sessions) state.nodes ≡ [] ∷ (1 ∷ []) ∷ [] ∷ [])
 
-starts_anew : started (restarted (row 1) (after open_links (row 1) (p ∷ []) (Write 0 0 ∷ Send 0 ∷ Crash 1 ∷ []))) (connection 0 ∷ connection 1 ∷ [])
-unfolding is_open lists judged open_links edge row seven p started
+starts_anew : started (restarted (chain 1) (after open_links (chain 1) (p ∷ []) (Write 0 0 ∷ Send 0 ∷ Crash 1 ∷ []))) (connection 0 ∷ connection 1 ∷ [])
+unfolding is_open lists judged open_links edge chain seven p started
 starts_anew = (refl, refl, refl)
 
 -- an author writes to two brokers, which link to one subscriber
@@ -196,11 +196,11 @@ unfolding is_open lists judged open_links edge two_lines seven p
 over_two_lines = (refl, refl, refl, refl)
 
 -- a broker that stops once its record is kept: its answer is lost, and the line is still open
-broker_stopped : (notes_at (after open_links (row 1) (p ∷ []) (Write 0 0 ∷ Send 0 ∷ Stop 4 0 (InDown 0) ∷ [])) 0 ≡ Wrote seven p ∷ [])
-    × (notes_at (after open_links (row 1) (p ∷ []) (Write 0 0 ∷ Send 0 ∷ Stop 4 0 (InDown 0) ∷ [])) 1 ≡ Accept seven (0 ∷ []) p ∷ [])
-    × (is_up (slice_get (after open_links (row 1) (p ∷ []) (Write 0 0 ∷ Send 0 ∷ Stop 4 0 (InDown 0) ∷ [])).nodes 1) ≡ false)
-    × delivered_row (Write 0 0 ∷ Send 0 ∷ Stop 4 0 (InDown 0) ∷ Drain ∷ [])
-unfolding is_open lists judged open_links edge row seven p delivered_row
+broker_stopped : (notes_at (after open_links (chain 1) (p ∷ []) (Write 0 0 ∷ Send 0 ∷ Stop 4 0 (InDown 0) ∷ [])) 0 ≡ Wrote seven p ∷ [])
+    × (notes_at (after open_links (chain 1) (p ∷ []) (Write 0 0 ∷ Send 0 ∷ Stop 4 0 (InDown 0) ∷ [])) 1 ≡ Accept seven (0 ∷ []) p ∷ [])
+    × (is_up (slice_get (after open_links (chain 1) (p ∷ []) (Write 0 0 ∷ Send 0 ∷ Stop 4 0 (InDown 0) ∷ [])).nodes 1) ≡ false)
+    × delivered (Write 0 0 ∷ Send 0 ∷ Stop 4 0 (InDown 0) ∷ Drain ∷ [])
+unfolding is_open lists judged open_links edge chain seven p delivered
 broker_stopped = (refl, refl, refl, (refl, refl, refl))
 
 -- two links to one broker, of which the second passes marked packets alone
