@@ -3,3 +3,4 @@ pub mod Lists
 pub mod Numbered
 pub mod Replied
 pub mod Stepped
+pub mod Reported

@@ -1,34 +1,28 @@
 -- What a broker owes.
-use Rattle.std.specs.Prelude.{ℕ, ◌+◌, Bool, cond, List, [], ◌∷◌, ◌++◌, filter, map, ◌==◌, ◌&&◌}
-use Rattle.std.specs.List.{list_any}
-use Rattle.std.specs.Str.{bytes_eq}
+use Rattle.std.specs.Prelude.{ℕ, zero, suc, ◌+◌, cond, List, [], ◌∷◌, ◌++◌}
 use Rattle.net_model.specs.declared.note.Note.{Note}
 use Rattle.net_model.specs.declared.note.Note.TheVariants.{Wrote, Acked, Refused, Accept, Done, Enter}
-use Rattle.net_model.specs.Notes.{is_open}
+use Rattle.net_model.specs.Notes.{is_open, knows}
 
--- a link's number and an identifier
-abbrev pub Pair : Type 0
-Pair = ℕ × List ℕ
+-- over how many of so many links an identifier is owed
+abbrev pub owing : List Note → List ℕ → ℕ → ℕ
+owing notes identifier zero = 0
+owing notes identifier (suc link) = owing notes identifier link + cond (is_open notes link identifier) 1 0
 
--- the pairs for which the acceptances list the link, in their order
-abbrev pub listed : List Note → List Pair
-listed [] = []
-listed (Accept identifier links packet ∷ notes) = map (λ link. (link, identifier)) links ++ listed notes
-listed (Wrote identifier packet ∷ notes) = listed notes
-listed (Acked line identifier ∷ notes) = listed notes
-listed (Refused line identifier ∷ notes) = listed notes
-listed (Done link identifier ∷ notes) = listed notes
-listed (Enter identifier packet ∷ notes) = listed notes
+-- the pairs of a link and an identifier that count at a record: an identifier counts at the first record that brings it
+abbrev pub owed_at : List Note → ℕ → List Note → Note → ℕ
+owed_at all links before (Accept identifier numbers packet) = cond (knows before identifier) 0 (owing all identifier links)
+owed_at all links before (Wrote identifier packet) = 0
+owed_at all links before (Acked line identifier) = 0
+owed_at all links before (Refused line identifier) = 0
+owed_at all links before (Done link identifier) = 0
+owed_at all links before (Enter identifier packet) = 0
 
--- the list has this pair
-abbrev pub is_among : List Pair → Pair → Bool
-is_among pairs pair = list_any (λ other. other.0 == pair.0 && bytes_eq other.1 pair.1) pairs
+-- the pairs that count at the records behind others
+abbrev pub owed_from : List Note → ℕ → List Note → List Note → ℕ
+owed_from all links before [] = 0
+owed_from all links before (note ∷ notes) = owed_at all links before note + owed_from all links (before ++ note ∷ []) notes
 
--- how many pairs stand in a list, each counted once
-abbrev pub count_once : List Pair → ℕ
-count_once [] = 0
-count_once (pair ∷ pairs) = cond (is_among pairs pair) 0 1 + count_once pairs
-
--- how many identifiers a broker owes, over all of its links
-abbrev pub owed : List Note → ℕ
-owed notes = count_once (filter (λ pair. is_open notes pair.0 pair.1) (listed notes))
+-- how many pairs of a link and an identifier a broker with so many links owes
+abbrev pub owed : List Note → ℕ → ℕ
+owed notes links = owed_from notes links [] notes

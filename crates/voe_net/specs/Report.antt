@@ -8,6 +8,7 @@ use Rattle.net_model.specs.declared.note.Note.{Note}
 use Rattle.net_model.specs.declared.note.Note.TheVariants.{Wrote, Acked, Refused, Accept, Done, Enter}
 use Rattle.net_model.specs.declared.state.Node.{Node}
 use Rattle.net_model.specs.declared.state.State.{State}
+use Rattle.net_model.specs.Nodes.{links_of}
 use Rattle.voe_net.specs.Owed.{owed}
 
 abbrev pub is_wrote : Note → Bool
@@ -49,33 +50,37 @@ abbrev pub subscriber_line : ℕ → Bool → ℕ → List ℕ
 subscriber_line k up entered =
     codes "node " ++ (decimal k ++ (codes " subscriber " ++ (state_word up ++ (codes " entered " ++ (decimal entered ++ codes "\n")))))
 
--- a node's line
-abbrev pub node_line : ℕ → Node → NodeKind → List ℕ
-node_line k node Author = author_line k node.up (count_by is_wrote node.notes) (count_by is_acked node.notes) (count_by is_refused node.notes)
-node_line k node Broker = broker_line k node.up (count_by is_accept node.notes) (owed node.notes)
-node_line k node Subscriber = subscriber_line k node.up (count_by is_enter node.notes)
+-- the line of the node of number k, which has so many links
+abbrev pub node_line : ℕ → ℕ → Node → NodeKind → List ℕ
+node_line k links node Author = author_line k node.up (count_by is_wrote node.notes) (count_by is_acked node.notes) (count_by is_refused node.notes)
+node_line k links node Broker = broker_line k node.up (count_by is_accept node.notes) (owed node.notes links)
+node_line k links node Subscriber = subscriber_line k node.up (count_by is_enter node.notes)
 
 -- the line of an identifier
 abbrev pub identifier_line : List ℕ → List ℕ
 identifier_line identifier = codes "  " ++ identifier ++ codes "\n"
 
+-- the line of the identifier that a record brings, if it brings one
+abbrev pub note_line : Note → List ℕ
+note_line (Wrote identifier packet) = identifier_line identifier
+note_line (Accept identifier links packet) = identifier_line identifier
+note_line (Enter identifier packet) = identifier_line identifier
+note_line (Acked line identifier) = []
+note_line (Refused line identifier) = []
+note_line (Done link identifier) = []
+
 -- the lines of the identifiers that the records bring, in their order
 abbrev pub identifier_lines : List Note → List ℕ
 identifier_lines [] = []
-identifier_lines (Wrote identifier packet ∷ notes) = identifier_line identifier ++ identifier_lines notes
-identifier_lines (Accept identifier links packet ∷ notes) = identifier_line identifier ++ identifier_lines notes
-identifier_lines (Enter identifier packet ∷ notes) = identifier_line identifier ++ identifier_lines notes
-identifier_lines (Acked line identifier ∷ notes) = identifier_lines notes
-identifier_lines (Refused line identifier ∷ notes) = identifier_lines notes
-identifier_lines (Done link identifier ∷ notes) = identifier_lines notes
+identifier_lines (note ∷ notes) = note_line note ++ identifier_lines notes
 
 -- the report of the nodes from number k on
-abbrev pub report_from : ℕ → List NodeKind → List Node → List ℕ
-report_from k [] nodes = []
-report_from k (kind ∷ kinds) [] = []
-report_from k (kind ∷ kinds) (node ∷ nodes) =
-    node_line k node kind ++ identifier_lines node.notes ++ report_from (k + 1) kinds nodes
+abbrev pub report_from : Graph → ℕ → List NodeKind → List Node → List ℕ
+report_from graph k [] nodes = []
+report_from graph k (kind ∷ kinds) [] = []
+report_from graph k (kind ∷ kinds) (node ∷ nodes) =
+    node_line k (links_of graph k) node kind ++ identifier_lines node.notes ++ report_from graph (k + 1) kinds nodes
 
 -- the report of all nodes, in order
 abbrev pub report_of : Graph → State → List ℕ
-report_of graph state = report_from 0 graph.nodes state.nodes
+report_of graph state = report_from graph 0 graph.nodes state.nodes

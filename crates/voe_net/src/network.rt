@@ -8,6 +8,7 @@ ghost use Rattle.voe_net.specs.Whole.{after_all, after_event};
 
 use crate::fault::NetFault;
 use crate::index::Index;
+use crate::report::report;
 use crate::start::start;
 use crate::steps::{arrive, hear, send, write};
 use net_model::{Event, Graph, State};
@@ -92,6 +93,13 @@ impl<'a> Network<'a> {
             _ => unreachable!(),
         }
         Ok(())
+    }
+
+    /// The report of all nodes, in order: of each a line, and a line for each identifier that it holds.
+    pub fn report(&self) -> Result<Bytes, NoMemory>
+        ensures { IfOk result (λ text. text ≡ report_of self.now.graph self.now.state) }
+    {
+        report(self.alloc, self.graph, &self.index, &self.state)
     }
 
     /// What happens at all events, in order. After a fault the network is only to be dropped.
