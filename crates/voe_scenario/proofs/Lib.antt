@@ -4,3 +4,4 @@ pub mod Numbers
 pub mod Names
 pub mod Kept
 pub mod Turns
+pub mod Examples

@@ -1,6 +1,5 @@
 -- Lines one after another.
-use Rattle.std.proofs.Common.{◌≡◌, ℕ, ◌+◌, ◌<◌, List, [], ◌∷◌, Option, Some, None, Result, Ok, Err, MatchOption, IfSome, length, refl, sym, ◌∙◌, arith, Bor, ◌==◌}
-use Rattle.std.specs.List.{slice_split}
+use Rattle.std.proofs.Common.{◌≡◌, ℕ, ◌+◌, ◌<◌, List, [], ◌∷◌, Option, Some, None, Result, Ok, Err, IfNone, IfSome, length, refl, sym, ◌∙◌, arith, Bor}
 use Rattle.voe_scenario.specs.declared.scenario.Scenario.{Scenario}
 use Rattle.voe_scenario.specs.declared.text.ScenarioFault.{ScenarioFault}
 use Rattle.voe_scenario.specs.declared.text.ScenarioFault.TheVariants.{Refused, NoMemory}
@@ -22,11 +21,10 @@ abbrev pub left_of : Option (Bor (List ℕ)) → ℕ
 left_of None = 0
 left_of (Some rest) = length rest.now + 1
 
-pub lines_left-cut : (bytes piece : List ℕ) (behind : Option (Bor (List ℕ)))
-    → MatchOption behind (slice_split (λ b. b == 10) bytes ≡ piece ∷ []) (λ rest. slice_split (λ b. b == 10) bytes ≡ piece ∷ slice_split (λ b. b == 10) rest.now)
-    → lines_of bytes ≡ piece ∷ lines_left behind
-lines_left-cut bytes piece None is = is
-lines_left-cut bytes piece (Some rest) is = is
+pub lines_left-cut : (bytes piece : List ℕ) (behind : Option (Bor (List ℕ))) → IfNone behind (lines_of bytes ≡ piece ∷ [])
+    → IfSome behind (λ rest. lines_of bytes ≡ piece ∷ lines_of rest.now) → lines_of bytes ≡ piece ∷ lines_left behind
+lines_left-cut bytes piece None last first = last
+lines_left-cut bytes piece (Some rest) last first = first
 
 pub left_of-cut : (bytes : List ℕ) (behind : Option (Bor (List ℕ))) → IfSome behind (λ rest. length rest.now < length bytes) → left_of behind < length bytes + 1
 left_of-cut bytes None shorter = omega arith

@@ -2,13 +2,17 @@
 use Rattle.std.specs.Prelude.{ℕ, ◌+◌, ◌-◌, ◌*◌, cond, Bool, false, List, [], ◌∷◌, Option, Some, None, length, ◌==◌, ◌&&◌, nat_le, fold}
 use Rattle.std.specs.List.{slice_split, list_all}
 
+-- what stands between such bytes
+abbrev pub pieces_of : ℕ → List ℕ → List (List ℕ)
+pieces_of byte bytes = slice_split (λ b. b == byte) bytes
+
 -- a line feed ends each line, but the last may lack it
 abbrev pub lines_of : List ℕ → List (List ℕ)
-lines_of text = slice_split (λ b. b == 10) text
+lines_of text = pieces_of 10 text
 
 -- one blank separates two words
 abbrev pub words_of : List ℕ → List (List ℕ)
-words_of line = slice_split (λ b. b == 32) line
+words_of line = pieces_of 32 line
 
 -- from the blank to the tilde
 abbrev pub is_printable : ℕ → Bool

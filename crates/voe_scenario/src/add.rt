@@ -14,38 +14,27 @@ use voe_values::{Bytes, NoMemory, NodeKind};
 fn add_node(scenario: &mut Scenario, kind: NodeKind) -> Result<(), NoMemory>
     ensures { OnOk result (scenario.new ≡ record scenario.old { graph = record scenario.old.graph { nodes = scenario.old.graph.nodes ++ kind ∷ [] } }) }
 {
-    match scenario.graph.nodes.push(kind) {
-        Ok(()) => Ok(()),
-        Err(_) => Err(NoMemory),
-    }
+    scenario.graph.nodes.push(kind).map_err(|refused| refused.1)
 }
 
 fn add_edge(scenario: &mut Scenario, upper: u8, lower: u8) -> Result<(), NoMemory>
     ensures { OnOk result (scenario.new ≡ with_edge scenario.old upper lower) }
 {
-    match scenario.graph.edges.push(Edge { upper, lower }) {
-        Ok(()) => Ok(()),
-        Err(_) => Err(NoMemory),
-    }
+    let edge = Edge { upper, lower };
+    scenario.graph.edges.push(edge).map_err(|refused| refused.1)
 }
 
 fn add_packet(alloc: Global, scenario: &mut Scenario, packet: &[u8]) -> Result<(), NoMemory>
     ensures { OnOk result (scenario.new ≡ record scenario.old { packets = scenario.old.packets ++ packet.now ∷ [] }) }
 {
     let packet = Bytes::of(alloc, packet)?;
-    match scenario.packets.push(packet) {
-        Ok(()) => Ok(()),
-        Err(_) => Err(NoMemory),
-    }
+    scenario.packets.push(packet).map_err(|refused| refused.1)
 }
 
 fn add_event(scenario: &mut Scenario, event: Event) -> Result<(), NoMemory>
     ensures { OnOk result (scenario.new ≡ with_event scenario.old event) }
 {
-    match scenario.events.push(event) {
-        Ok(()) => Ok(()),
-        Err(_) => Err(NoMemory),
-    }
+    scenario.events.push(event).map_err(|refused| refused.1)
 }
 
 /// Adds what a line says whose numbers name what is there.

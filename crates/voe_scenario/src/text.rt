@@ -38,17 +38,17 @@ fn is_passed_over(line: &[u8]) -> bool
     }
 }
 
-/// Takes the line of this number.
+/// Takes the line at this place, counted from 1.
 fn take_line(
     alloc: Global,
     scenario: &mut Scenario,
     line: &[u8],
-    number: u32,
+    place: u32,
 ) -> Result<(), ScenarioFault>
     requires { IsSound scenario.old }
     ensures ok { OnOk result (IsTaken scenario.old line.now scenario.new) }
     ensures sound { OnOk result (IsSound scenario.new) }
-    ensures refused { IfErr result (IsRefusedBy (refusal_of scenario.old line.now) number) }
+    ensures refused { IfErr result (IsRefusedBy (refusal_of scenario.old line.now) place) }
 {
     if is_passed_over(line) {
         return Ok(());
@@ -56,7 +56,7 @@ fn take_line(
     match judge(scenario, line) {
         Err(fault) => Err(ScenarioFault::Refused {
             number: number_of(fault),
-            line: number,
+            line: place,
         }),
         Ok(said) => match add_statement(alloc, scenario, said) {
             Ok(()) => Ok(()),
@@ -73,12 +73,12 @@ fn take_lines(alloc: Global, scenario: &mut Scenario, text: &[u8]) -> Result<(),
     ensures sound { OnOk result (IsSound scenario.new) }
     ensures refused { IfErr result (IsRefusalOf (read_from scenario.old 1 (lines_of text.now))) }
 {
-    let mut number: u32 = 0;
+    let mut place: u32 = 0;
     let mut rest = Some(text);
     while let Some(lines) = rest {
         let (line, behind) = cut(lines, b'\n');
-        number += 1;
-        take_line(alloc, scenario, line, number)?;
+        place += 1;
+        take_line(alloc, scenario, line, place)?;
         rest = behind;
     }
     Ok(())

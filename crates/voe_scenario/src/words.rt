@@ -1,14 +1,15 @@
 //! Pieces of a text, and numbers.
 
-ghost use Rattle.std.specs.Prelude.{◌≡◌, ◌<◌, ◌∷◌, ◌==◌, [], true, ◌≤◌, IfSome, MatchOption, length};
-ghost use Rattle.std.specs.List.{slice_split, list_all};
-ghost use Rattle.voe_scenario.specs.Words.{is_digit as is_digit_byte, is_number as is_number_word, number_of, value_of};
+ghost use Rattle.std.specs.Prelude.{◌≡◌, ◌<◌, ◌≤◌, ◌∷◌, [], IfNone, IfSome, length, true};
+ghost use Rattle.std.specs.List.{list_all};
+ghost use Rattle.voe_scenario.specs.Words.{is_digit as is_digit_byte, is_number as is_number_word, number_of, pieces_of, value_of};
 
 use memchr::memchr;
 
 /// What stands before the first such byte, and what stands behind it, if the byte is there.
 pub fn cut(bytes: &[u8], byte: u8) -> (&[u8], Option<&[u8]>)
-    ensures pieces { MatchOption result.1 (slice_split (λ b. b == byte) bytes.now ≡ result.0.now ∷ []) (λ rest. slice_split (λ b. b == byte) bytes.now ≡ result.0.now ∷ slice_split (λ b. b == byte) rest.now) }
+    ensures last { IfNone result.1 (pieces_of byte bytes.now ≡ result.0.now ∷ []) }
+    ensures first { IfSome result.1 (λ rest. pieces_of byte bytes.now ≡ result.0.now ∷ pieces_of byte rest.now) }
     ensures shorter { IfSome result.1 (λ rest. length rest.now < length bytes.now) }
 {
     match memchr(byte, bytes) {

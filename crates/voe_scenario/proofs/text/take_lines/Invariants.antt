@@ -8,9 +8,9 @@ use Rattle.voe_scenario.proofs.text.take_lines.Given as goal
 
 abbrev pub invariant-loop-rest : goal.invariant-loop-rest
 invariant-loop-rest l = record {
-  same : read_from l.scenario (l.number + 1) (lines_left l.rest) ≡ read_from l.fn.scenario 1 (lines_of l.fn.text);
+  same : read_from l.scenario (l.place + 1) (lines_left l.rest) ≡ read_from l.fn.scenario 1 (lines_of l.fn.text);
   sound : IsSound l.scenario;
-  counted : l.number + left_of l.rest ≤ length l.fn.text + 1;
+  counted : l.place + left_of l.rest ≤ length l.fn.text + 1;
 }
 
 abbrev pub decreases-loop-rest : goal.decreases-loop-rest
