@@ -10,11 +10,13 @@ pub mod Events
 pub mod Kept
 pub mod Settled
 pub mod Sessions
+pub mod Shape
 pub mod Counting
 pub mod Closed
 pub mod Turn
 pub mod Calm
 pub mod Restart
+pub mod Ahead
 pub mod Drained
 pub mod Emptied
 pub mod Delivered

@@ -9,4 +9,5 @@ pub mod Rounds
 pub mod Runs
 pub mod Laws
 pub mod Draining
+pub mod Shape
 pub mod Traffic

@@ -6,6 +6,7 @@ ghost use Rattle.net_model.specs.Laws.{AllWritten, AtEveryMoment, IsCovered, IsC
 ghost use Rattle.net_model.specs.Rounds.{restarted, round, rounds};
 ghost use Rattle.net_model.specs.Rules.{Rules, endless};
 ghost use Rattle.net_model.specs.Runs.{after, run};
+ghost use Rattle.net_model.specs.Shape.{AllWired, IsInTurn, IsKept, IsSized};
 ghost use Rattle.net_model.specs.Traffic.{AllTraffic};
 ghost use Rattle.net_model.specs.declared.scenario.Event.{Event};
 ghost use Rattle.net_model.specs.declared.scenario.Event.TheVariants.{Drain};
@@ -29,6 +30,21 @@ pub fn every_state()
         → IsOrdered (after rules graph packets events) }
     ensures current { (rules : Rules) (graph : Graph) (packets : List (List ℕ)) (events : List Event)
         → IsCurrent graph (after rules graph packets events) }
+{}
+
+/// There is a node for each of the graph's and a wire for each edge; each node keeps notes of its
+/// kind, each packet under its own identifier; both ends of a connected edge are up, a cut one has
+/// nothing under way, and what is unanswered is in flight, within the window; and an edge sends next
+/// what its upper end gives when it is asked for the first packet past those that were sent.
+pub fn every_shape()
+    ensures sized { (rules : Rules) (graph : Graph) (packets : List (List ℕ)) (events : List Event)
+        → IsSized graph (after rules graph packets events) }
+    ensures kept { (rules : Rules) (graph : Graph) (packets : List (List ℕ)) (events : List Event)
+        → IsKept rules graph (after rules graph packets events) }
+    ensures wired { (rules : Rules) (graph : Graph) (packets : List (List ℕ)) (events : List Event)
+        → IsProper graph → AllWired graph (after rules graph packets events) }
+    ensures in_turn { (rules : Rules) (graph : Graph) (packets : List (List ℕ)) (events : List Event)
+        → IsInTurn graph (after rules graph packets events) }
 {}
 
 /// Whenever no broker owes a delivery, every subscriber that an acknowledged packet reaches has

@@ -12,8 +12,8 @@ mod state;
 mod step;
 
 pub use laws::{
-    drained_state, every_drain, every_moment, every_state, run_with_room, settled_state,
-    still_round, traffic_continued,
+    drained_state, every_drain, every_moment, every_shape, every_state, run_with_room,
+    settled_state, still_round, traffic_continued,
 };
 pub use note::Note;
 pub use scenario::{Edge, Event, Graph, Inner};
