@@ -20,7 +20,7 @@ two : List (List ℕ)
 two = codes "author" ∷ codes "broker" ∷ codes "line 0 1" ∷ []
 
 empty_text : scenario_of [] ≡ Ok nothing_yet
-unfolding read_from said_of is_number is_kind is_passed_over is_role
+unfolding scenario_of read_from said_of is_number is_kind is_passed_over is_role
 empty_text = refl
 
 first_path :
@@ -30,7 +30,7 @@ first_path :
       packets = codes "a" ∷ [];
       events = Write 0 0 ∷ Send 0 ∷ Down 0 ∷ Up 1 ∷ [];
     })
-unfolding read_from said_of is_number is_kind is_passed_over is_role text_of
+unfolding scenario_of read_from said_of is_number is_kind is_passed_over is_role text_of
 first_path = refl
 
 -- the lines behind those two are refused like this
@@ -38,11 +38,11 @@ after_two : List (List ℕ) → List ℕ
 after_two lines = text_of (two ++ lines)
 
 no_such_node : scenario_of (codes "line 0 1") ≡ Err (record { number = 2; line = 1 })
-unfolding read_from said_of is_number is_kind is_passed_over is_role
+unfolding scenario_of read_from said_of is_number is_kind is_passed_over is_role
 no_such_node = refl
 
 one_number_too_few : scenario_of (after_two (codes "write 0" ∷ [])) ≡ Err (record { number = 1; line = 4 })
-unfolding read_from said_of is_number is_kind is_passed_over is_role text_of two after_two
+unfolding scenario_of read_from said_of is_number is_kind is_passed_over is_role text_of two after_two
 one_number_too_few = refl
 
 -- by which number each of these lines is refused, behind the lines that made this scenario

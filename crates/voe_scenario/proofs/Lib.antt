@@ -5,3 +5,4 @@ pub mod Names
 pub mod Kept
 pub mod Turns
 pub mod Examples
+pub mod Long

@@ -54,7 +54,7 @@ abbrev pub nothing_yet : Scenario
 nothing_yet = record { graph = record { nodes = []; edges = []; window = 1 }; packets = []; events = [] }
 
 -- the scenario that a text is, or its first refused line; a text above the limit is none before all others
-abbrev pub scenario_of : List ℕ → Result Scenario Refusal
+unfoldable pub scenario_of : List ℕ → Result Scenario Refusal
 scenario_of text = cond (nat_lt 33554432 (length text)) (Err (record { number = 3; line = 0 })) (read_from nothing_yet 1 (lines_of text))
 
 -- the refusal that the text has; memory may be wanted too

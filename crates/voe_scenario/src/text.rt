@@ -86,6 +86,7 @@ fn take_lines(alloc: Global, scenario: &mut Scenario, text: &[u8]) -> Result<(),
 
 /// Reads the text of a scenario, of which at most 33,554,433 bytes are given: one more than it may have tells that it
 /// is too long. The scenario is within the limits, and its edges and events name only what it has.
+#[tactic(auto, unfolding(crate::specs::Scenarios::scenario_of))]
 pub fn read_scenario(alloc: Global, bytes: &[u8]) -> Result<Scenario, ScenarioFault>
     requires { length bytes.now ≤ 33554433 }
     ensures ok { IfOk result (λ scenario. scenario_of bytes.now ≡ Ok scenario) }
