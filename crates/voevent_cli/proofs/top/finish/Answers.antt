@@ -1,0 +1,23 @@
+-- What was prepared is written, with its status.
+use Rattle.std.proofs.Common.{ap, sym, ◌∙◌}
+use Rattle.std.specs.Io.KnownBytes.{append_known}
+use Rattle.voe_scenario.specs.Scenarios.{scenario_of}
+use Rattle.voevent_cli.proofs.Moments_hold.{safe_throughout}
+use Rattle.voevent_cli.proofs.Wants.{written}
+use Rattle.voevent_cli.proofs.top.finish.Goals as goal
+
+pub returns-in-Ok-write_all : goal.returns-in-Ok-write_all
+returns-in-Ok-write_all g c =
+    let prepared = c.in-Ok.ensures in
+    record {
+      taken = prepared.0;
+      gave = prepared.1.0;
+      few = prepared.1.1;
+      says = written c.args.words.now prepared.0 _ _ c.in-Ok.outcome.status
+          (record {
+            read = prepared.2;
+            wanted_status = ap (λ outcome. outcome.status) (sym prepared.3);
+            output = c.in-Ok-write_all.ensures.bytes ∙ ap (append_known (g.K.Sink.held c.args.sink.now)) (c.as_slice.ensures ∙ ap (λ outcome. outcome.output) prepared.3);
+          })
+          (safe_throughout (scenario_of prepared.0) c.every_moment.ensures.single c.every_moment.ensures.written c.every_moment.ensures.fulfilled);
+    }

@@ -1,0 +1,22 @@
+-- What was read and made before anything is written.
+use Rattle.std.specs.Prelude.{◌≡◌, ℕ, ◌≤◌, List, length, Result, Ok, Err, IsSome}
+use Rattle.std.specs.declared.option.Option.{Option}
+use Rattle.voe_outside.specs.Causes.{Rose}
+use Rattle.voe_outside.specs.Whole.{Gave}
+use Rattle.voevent_cli.specs.declared.outcome.Outcome.{Outcome}
+use Rattle.voevent_cli.specs.declared.prepare.Hindrance.{Hindrance}
+use Rattle.voevent_cli.specs.declared.prepare.Hindrance.TheVariants.{ReadFault, NoMemory}
+use Rattle.voevent_cli.specs.Wanted.{command_of, wanted}
+use Rattle.voevent_cli.specs.Answers.{HasRead, most_of}
+
+-- these bytes were taken, and not too many
+abbrev pub Took : List (List ℕ) → List ℕ → Option (List ℕ) → Option (List ℕ) → Type 0
+Took words taken before now = Gave taken before now × (length taken ≤ most_of (command_of words))
+
+abbrev pub Prepares : List (List ℕ) → Option (List ℕ) → Option (List ℕ) → ℕ → ℕ → Result Outcome Hindrance → Type 0
+Prepares words before now faults_before faults_now (Ok outcome) =
+    (taken : List ℕ) × Took words taken before now × HasRead (command_of words) taken now × (outcome ≡ wanted words taken)
+Prepares words before now faults_before faults_now (Err ReadFault) =
+    (taken : List ℕ) × Took words taken before now × IsSome (command_of words) × Rose faults_before faults_now
+Prepares words before now faults_before faults_now (Err NoMemory) =
+    (taken : List ℕ) × Took words taken before now

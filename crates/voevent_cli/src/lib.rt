@@ -1,0 +1,14 @@
+//! What the program does with its words, over whatever source and sink it is handed.
+//!
+//! [`offline`] is the whole program but for the real objects. Its contract says for all words and all inputs which
+//! status it ends with, what it writes and how much it reads.
+#![tactic(auto)]
+
+mod command;
+mod line;
+mod net;
+mod outcome;
+mod prepare;
+mod top;
+
+pub use top::offline;
