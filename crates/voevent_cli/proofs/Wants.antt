@@ -33,7 +33,7 @@ wanted_of_net-refused text refusal line refused is_so =
 -- a text above the limit is refused as a whole
 pub wanted_of_net-above : (input : List ℕ) → 33554432 < length input
     → wanted_of_net input ≡ record { status = Refused; output = refusal_line (record { number = 3; line = 0 }) }
-unfolding wanted_of_net
+unfolding wanted_of_net scenario_of
 wanted_of_net-above input above =
     let is_above = lt-ltb 33554432 (length input) above in
     ap (λ b. reported (cond b (Err (record { number = 3; line = 0 })) (read_from nothing_yet 1 (lines_of input)))) is_above
@@ -95,17 +95,17 @@ wanted_for-taken (Some command) taken input (Some rest) (inr above) gave =
     wanted_for-above command taken input above longer
 
 all_done : (words : List (List ℕ)) (taken input : List ℕ) (before now : Moment) (status : Status) → before.left ≡ Some input
-    → Gave taken before.left now.left → Answered words taken before now status → DoesAll words input before.held now.held (code_of status)
+    → Gave taken before.left now.left → Answered words taken before now status → DoesAll words input before now (code_of status)
 all_done words taken input before now status told gave answered =
     let same = wanted_for-taken (command_of words) taken input now.left answered.read (rw told at gave) in
     inl (ap code_of (sym answered.wanted_status ∙ ap (λ outcome. outcome.status) same), rw (← same) answered.output)
 
 -- of a source that tells its bytes, all that is wanted was done, or 4, 5 or 7 is answered
 pub does_all : (words : List (List ℕ)) (taken input : List ℕ) (before now : Moment) (status : Status) → before.left ≡ Some input
-    → Gave taken before.left now.left → Says words taken before now status → DoesAll words input before.held now.held (code_of status)
+    → Gave taken before.left now.left → Says words taken before now status → DoesAll words input before now (code_of status)
 does_all words taken input before now Done told gave says = all_done words taken input before now Done told gave says.0
 does_all words taken input before now Usage told gave says = all_done words taken input before now Usage told gave says
 does_all words taken input before now Refused told gave says = all_done words taken input before now Refused told gave says
-does_all words taken input before now ReadFault told gave says = inr (inl refl)
-does_all words taken input before now WriteFault told gave says = inr (inr (inl refl))
+does_all words taken input before now ReadFault told gave says = inr (inl (refl, says.2))
+does_all words taken input before now WriteFault told gave says = inr (inr (inl (refl, says.1)))
 does_all words taken input before now NoMemory told gave says = inr (inr (inr refl))

@@ -67,8 +67,10 @@ pub record Ends (words : List (List ℕ)) (before now : Moment) (status : Status
 abbrev pub Answers : List (List ℕ) → Moment → Moment → ℕ → Type 0
 Answers words before now code = (status : Status) × (code ≡ code_of status) × Ends words before now status
 
--- what is wanted for a whole input was done, or else 4, 5 or 7 is answered
-abbrev pub DoesAll : List (List ℕ) → List ℕ → Option (List ℕ) → Option (List ℕ) → ℕ → Type 0
+-- What is wanted for a whole input was done. Else a count of faults rose, and 4 or 5 is answered for it, or 7 is.
+abbrev pub DoesAll : List (List ℕ) → List ℕ → Moment → Moment → ℕ → Type 0
 DoesAll words input before now code =
-    ((code ≡ code_of (wanted words input).status) × (now ≡ append_known before (wanted words input).output))
-    ⊎ ((code ≡ 4) ⊎ ((code ≡ 5) ⊎ (code ≡ 7)))
+    ((code ≡ code_of (wanted words input).status) × (now.held ≡ append_known before.held (wanted words input).output))
+    ⊎ (((code ≡ 4) × Rose before.read_faults now.read_faults)
+    ⊎ (((code ≡ 5) × Rose before.write_faults now.write_faults)
+    ⊎ (code ≡ 7)))

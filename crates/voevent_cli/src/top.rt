@@ -43,8 +43,10 @@ pub fn offline<S: Source, K: Sink>(
         let after = moment (S.left source.new) (S.fault_count source.new) (K.held sink.new) (K.fault_count sink.new) in
         Answers words.now before after result }
 
-    // A source that tells its bytes: what is wanted for all of them is done, unless 4, 5 or 7 is answered.
-    ensures complete { (input : List ℕ) → S.left source.old ≡ Some input → DoesAll words.now input (K.held sink.old) (K.held sink.new) result }
+    // Of a source that tells its bytes: what is wanted for all of them is done, unless a count of faults rose, or 7.
+    ensures complete { let before = moment (S.left source.old) (S.fault_count source.old) (K.held sink.old) (K.fault_count sink.old) in
+        let after = moment (S.left source.new) (S.fault_count source.new) (K.held sink.new) (K.fault_count sink.new) in
+        (input : List ℕ) → before.left ≡ Some input → DoesAll words.now input before after result }
 
     // 4 comes only where the source's count of faults rose in this call, 5 only where the sink's did.
     ensures read_fault { result ≡ 4 → Rose (S.fault_count source.old) (S.fault_count source.new) }
