@@ -2,16 +2,18 @@
 
 ghost use Rattle.std.specs.Prelude.{◌≡◌, ◌++◌, ◌∷◌, ◌*◌, ◌≤◌, List, [], length, ℕ};
 ghost use Rattle.net_model.specs.Draining.{Drains, HadRoom, IsAllAnswered, IsAllUp, IsAtRest, IsDelivered, IsProper, NamesWritten, restart_of, sendings};
-ghost use Rattle.net_model.specs.Laws.{AllWritten, AtEveryMoment, IsCovered, IsCurrent, IsFulfilled, IsOrdered, IsSettled, IsSourced, NoDouble};
+ghost use Rattle.net_model.specs.Laws.{AllWritten, AtEveryMoment, HasEdge, IsA, IsCovered, IsCurrent, IsFulfilled, IsOrdered, IsSettled, IsSourced, NoDouble};
 ghost use Rattle.net_model.specs.Rounds.{restarted, round, rounds};
 ghost use Rattle.net_model.specs.Rules.{Rules, endless};
 ghost use Rattle.net_model.specs.Runs.{after, run};
 ghost use Rattle.net_model.specs.Shape.{AllWired, IsInTurn, IsKept, IsSized};
 ghost use Rattle.net_model.specs.Traffic.{AllTraffic};
+ghost use Rattle.net_model.specs.declared.scenario.Edge.{Edge};
 ghost use Rattle.net_model.specs.declared.scenario.Event.{Event};
 ghost use Rattle.net_model.specs.declared.scenario.Event.TheVariants.{Drain};
 ghost use Rattle.net_model.specs.declared.scenario.Graph.{Graph};
 ghost use Rattle.net_model.specs.declared.state.State.{State};
+ghost use Rattle.voe_values.specs.declared.kind.NodeKind.TheVariants.{Author, Broker};
 
 /// Whatever is written, delivered, cut, stopped and reopened: no node holds an identifier twice, an
 /// author wrote each packet, which was carried from there to its node, what is owed or held follows
@@ -45,6 +47,12 @@ pub fn every_shape()
         → IsProper graph → AllWired graph (after rules graph packets events) }
     ensures in_turn { (rules : Rules) (graph : Graph) (packets : List (List ℕ)) (events : List Event)
         → IsInTurn graph (after rules graph packets events) }
+{}
+
+/// A line of a proper graph leads to a broker, so that what is acknowledged on it is at a broker.
+pub fn every_line()
+    ensures lower { (graph : Graph) (a number : ℕ) (line : Edge)
+        → IsProper graph → IsA graph a Author → HasEdge graph a number line → IsA graph line.lower Broker }
 {}
 
 /// Whenever no broker owes a delivery, every subscriber that an acknowledged packet reaches has

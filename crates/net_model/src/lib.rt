@@ -12,7 +12,7 @@ mod state;
 mod step;
 
 pub use laws::{
-    drained_state, every_drain, every_moment, every_shape, every_state, run_with_room,
+    drained_state, every_drain, every_line, every_moment, every_shape, every_state, run_with_room,
     settled_state, still_round, traffic_continued,
 };
 pub use note::Note;
