@@ -5,3 +5,5 @@ pub mod Cut
 pub mod Phases
 pub mod View
 pub mod Refusal
+pub mod Scan
+pub mod Cutting

@@ -4,8 +4,14 @@
 //! nothing here nests elements, reads names as namespaces, or joins texts.
 #![tactic(auto)]
 
+mod characters;
 mod fault;
+mod lexer;
+mod markup;
+mod reference;
+mod scan;
 mod token;
 
 pub use fault::TokenFault;
+pub use reference::named_character;
 pub use token::{SpelledAttribute, StartTag, Token};
