@@ -1,18 +1,16 @@
 -- Attributes are read exactly where they are spelled.
-use Rattle.std.proofs.Common.{◌≡◌, ◌+◌, ◌≤◌, ◌&&◌, ◌||◌, ◌==◌, ◌⊎◌, inl, inr, ℕ, zero, suc, Bool, true, false, cond, List, [], ◌∷◌, ◌++◌, length, take, drop, Option, Some, None, refl, sym, ◌∙◌, ap, subst, arith, eqb-true, eq-eqb, append_assoc, add-one}
-use Rattle.std.specs.Prelude.{not, is_none, is_some, option_map, slice_index}
-use Rattle.std.specs.List.{list_all, prefix_len}
+use Rattle.std.proofs.Common.{◌≡◌, ◌+◌, ◌||◌, ◌==◌, inl, inr, ℕ, true, [], ◌∷◌, ◌++◌, length, take, drop, Some, refl, sym, ◌∙◌, ap, subst, arith}
+use Rattle.std.specs.List.{prefix_len}
 use Rattle.std.proofs.Math.Seq.{take-append_seam, drop-append-add}
 use Rattle.std.proofs.lemmas.Bool.Decides.{nat_tests}
 use Rattle.xml_lexer.specs.Characters.{Text, is_blank, is_spelled_name}
 use Rattle.xml_lexer.specs.Token.{Spelled}
-use Rattle.xml_lexer.specs.Spelling.{AreBlanks, IsValue, IsQuote, IsAttribute, AreAttributes, tag_end}
-use Rattle.xml_lexer.specs.Scan.{◌>>=◌, in_name, name_at, byte_at, skip_blanks, value_len, value_at, quoted_at, attribute_at, tag_end_at, no_attributes_at, attributes_at}
-use Rattle.xml_lexer.proofs.Runs.{both, bind-then, same_pair, guard-some, byte_at-some, byte_at-cons}
-use Rattle.xml_lexer.proofs.NameLaws.{in_name-blank, name-stops, name_at-complete, name_at-sound, skip_blanks-complete, skip_blanks-sound, spelled-all_in_name}
+use Rattle.xml_lexer.specs.Spelling.{AreBlanks, IsValue, IsQuote}
+use Rattle.xml_lexer.specs.Scan.{in_name, name_at, byte_at, skip_blanks, value_len, value_at, quoted_at, attribute_at}
+use Rattle.xml_lexer.proofs.Runs.{bind-then, same_pair, byte_at-some}
+use Rattle.xml_lexer.proofs.NameLaws.{name-stops, name_at-complete, name_at-sound, skip_blanks-complete, skip_blanks-sound}
 use Rattle.xml_lexer.proofs.ReferenceLaws.{chosen}
 use Rattle.xml_lexer.proofs.ValueLaws.{value_len-complete, value_len-sound}
-use Rattle.xml_lexer.proofs.AttributeSteps.{attributes_at-end}
 
 pub value_at-complete : (quote : ℕ) (v rest : Text) → IsValue quote v → value_at quote (v ++ (quote ∷ rest)) ≡ Some (v, rest)
 unfolding value_at

@@ -1,6 +1,6 @@
 -- One step of reading attributes.
-use Rattle.std.proofs.Common.{◌≡◌, ◌&&◌, ◌||◌, ◌++◌, ℕ, zero, suc, Bool, true, false, cond, List, [], ◌∷◌, length, slice_index, Option, Some, None, refl, ap, append_assoc, append-nil, sym, ◌∙◌}
-use Rattle.std.specs.Prelude.{not, is_some, option_map}
+use Rattle.std.proofs.Common.{◌≡◌, ◌||◌, ◌++◌, ℕ, zero, suc, Bool, true, false, cond, List, [], ◌∷◌, slice_index, Option, Some, None, refl, ap, append_assoc, append-nil, sym, ◌∙◌}
+use Rattle.std.specs.Prelude.{not, is_some}
 use Rattle.xml_lexer.specs.Characters.{Text, is_blank}
 use Rattle.xml_lexer.specs.Token.{Spelled}
 use Rattle.xml_lexer.specs.Scan.{◌>>=◌, skip_blanks, tag_end_at, attribute_at, no_attributes_at, attributes_at, with_front}

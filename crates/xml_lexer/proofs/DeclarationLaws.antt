@@ -1,13 +1,13 @@
 -- The declaration is read exactly where it is spelled.
-use Rattle.std.proofs.Common.{◌≡◌, ◌+◌, ◌<◌, ◌≤◌, ◌&&◌, ◌||◌, ◌==◌, ◌⊎◌, inl, inr, ℕ, zero, suc, Bool, true, false, cond, List, [], ◌∷◌, ◌++◌, length, take, drop, Option, Some, None, refl, sym, ◌∙◌, ap, subst, arith, eqb-true, eq-eqb, append_assoc, append-nil, length-append}
-use Rattle.std.specs.Prelude.{not, is_none, slice_index, codes}
+use Rattle.std.proofs.Common.{◌≡◌, ◌+◌, ◌<◌, ◌&&◌, ◌||◌, ◌==◌, ◌⊎◌, inl, inr, ℕ, Bool, true, false, cond, [], ◌∷◌, ◌++◌, length, take, drop, Option, Some, None, refl, sym, ◌∙◌, ap, subst, arith, append_assoc, length-append}
+use Rattle.std.specs.Prelude.{is_none, slice_index, codes}
 use Rattle.std.specs.List.{list_all, prefix_len}
 use Rattle.std.proofs.lemmas.Bool.Decides.{nat_tests}
 use Rattle.std.proofs.lemmas.List.{take-append-drop}
 use Rattle.xml_lexer.specs.Characters.{Text, is_blank}
 use Rattle.xml_lexer.specs.Spelling.{AreBlanks, IsQuote, is_value_byte, IsPart, IsOptionalPart, IsDeclaration}
 use Rattle.xml_lexer.specs.Scan.{◌>>=◌, skip_blanks, byte_at, literal_at, plain_value_behind, plain_value_at, part_at, or_absent, optional_at, parts_at, declaration_at}
-use Rattle.xml_lexer.proofs.Runs.{both, bind-then, same_pair, guard-some, take-run, drop-run, list_all-run, byte_at-some, byte_at-cons}
+use Rattle.xml_lexer.proofs.Runs.{bind-then, same_pair, take-run, drop-run, list_all-run, byte_at-some, byte_at-cons}
 use Rattle.xml_lexer.proofs.NameLaws.{skip_blanks-complete, skip_blanks-sound}
 use Rattle.xml_lexer.proofs.ReferenceLaws.{chosen}
 use Rattle.xml_lexer.proofs.SoundLaws.{first_blank}
@@ -167,10 +167,11 @@ longer version encoding standalone one two three a b c some =
     elim (none_absent (is_none version) (is_none encoding) (is_none standalone) some) [
       | inl h ↦ omega (arith, part_len (codes "version") version one a h)
       | inr r ↦ elim r [
-          | inl h ↦ omega (arith, part_len (codes "encoding") encoding two b h)
-          | inr h ↦ omega (arith, part_len (codes "standalone") standalone three c h)
-        ]
+        | inl h ↦ omega (arith, part_len (codes "encoding") encoding two b h)
+        | inr h ↦ omega (arith, part_len (codes "standalone") standalone three c h)
+      ]
     ]
+
 pub declaration_at-complete : (encoding : Option Text) (s rest : Text) → IsDeclaration encoding s → declaration_at (s ++ rest) ≡ Some (encoding, rest)
 unfolding declaration_at
 declaration_at-complete encoding s rest (version, standalone, one, two, three, gap, p1, p2, p3, some, blanks, is) =
@@ -229,5 +230,5 @@ declaration_at-sound s encoding rest h =
           declared = text;
           is_declaration = (one.0, three.0, p1.0, p2.0, p3.0, gap.0, p1.1, subst P present.1 p2.1, p3.1, some, gap.1, sym (simp append_assoc));
           split = begun ∙ ap (λ t. codes "<?xml" ++ t) (p1.2 ∙ ap (λ t. p1.0 ++ t) (p2.2 ∙ ap (λ t. p2.0 ++ t) (p3.2 ∙ ap (λ t. p3.0 ++ t) (gap.2 ∙ ap (λ t. gap.0 ++ t)
-          (closed ∙ ap (λ t. codes "?>" ++ t) present.2))))) ∙ sym (simp append_assoc);
+              (closed ∙ ap (λ t. codes "?>" ++ t) present.2))))) ∙ sym (simp append_assoc);
         }

@@ -1,5 +1,5 @@
 -- The first place of some bytes, as the search gives it.
-use Rattle.std.proofs.Common.{◌≡◌, ◌+◌, ◌≤◌, ◌<◌, ℕ, zero, suc, Bool, true, false, cond, List, [], ◌∷◌, length, take, drop, Option, Some, None, refl, sym, ◌∙◌, ap, subst, arith, length-drop}
+use Rattle.std.proofs.Common.{◌≡◌, ◌+◌, ◌≤◌, ◌<◌, ℕ, zero, suc, Bool, true, false, [], ◌∷◌, length, take, drop, Option, Some, None, refl, sym, ap, subst, arith, length-drop}
 use Rattle.std.specs.Prelude.{nat_eq, slice_index, IfSome, not}
 use Rattle.std.specs.List.{starts_with, prefix_len}
 use Rattle.std.specs.Cmp.Lexicographic.{bytes_decides}

@@ -19,3 +19,7 @@ pub mod MarkupLaws
 pub mod SoundLaws
 pub mod DeclarationLaws
 pub mod TokenLaws
+pub mod Fronts
+pub mod Cuts
+pub mod Phases
+pub mod Exclusion

@@ -1,6 +1,6 @@
 -- Comments, instructions and CDATA sections are read exactly where they are spelled.
-use Rattle.std.proofs.Common.{◌≡◌, ◌+◌, ◌<◌, ◌≤◌, ◌&&◌, ◌||◌, ◌==◌, ◌⊎◌, inl, inr, ℕ, zero, suc, Bool, true, false, cond, List, [], ◌∷◌, ◌++◌, length, take, drop, Option, Some, None, refl, sym, ◌∙◌, ap, subst, arith, eqb-true, append_assoc, length-append, length-take-le}
-use Rattle.std.specs.Prelude.{not, nat_eq, option_map, slice_index, codes}
+use Rattle.std.proofs.Common.{◌≡◌, ◌+◌, ◌<◌, ◌≤◌, ◌&&◌, ◌||◌, ◌==◌, ◌⊎◌, inl, inr, ℕ, zero, suc, Bool, true, false, [], ◌∷◌, ◌++◌, length, take, drop, Some, refl, sym, ◌∙◌, ap, arith, append_assoc, length-append, length-take-le}
+use Rattle.std.specs.Prelude.{not, nat_eq, slice_index, codes}
 use Rattle.std.specs.List.{list_all, prefix_len, starts_with}
 use Rattle.std.specs.Cmp.Lexicographic.{bytes_decides, pointwise}
 use Rattle.std.specs.Str.{str_eq_ignore_ascii_case}
@@ -9,11 +9,10 @@ use Rattle.std.proofs.lemmas.List.{take-append-le, drop-append-le, take-append-d
 use Rattle.std.proofs.lemmas.Bool.{cases_lt}
 use Rattle.std.proofs.lemmas.Bool.Decides.{nat_tests}
 use Rattle.xml_lexer.proofs.NameLaws.{blank_cases}
-use Rattle.memchr.specs.Find.{OccursAt}
 use Rattle.xml_lexer.specs.Characters.{Text, is_blank, is_name, is_name_byte}
 use Rattle.xml_lexer.specs.Spelling.{IsFirst, IsUpTo}
-use Rattle.xml_lexer.specs.Scan.{◌>>=◌, literal_at, find_at, up_to_at, instruction_at}
-use Rattle.xml_lexer.proofs.Runs.{both, bind-then, same_pair, guard-some, take-run, drop-run, list_all-run, prefix_len-behind}
+use Rattle.xml_lexer.specs.Scan.{literal_at, find_at, up_to_at, instruction_at}
+use Rattle.xml_lexer.proofs.Runs.{both, bind-then, same_pair, guard-some, take-run, drop-run}
 use Rattle.xml_lexer.proofs.ReferenceLaws.{chosen}
 use Rattle.xml_lexer.proofs.ValueLaws.{mapped}
 use Rattle.xml_lexer.proofs.FirstPlaces.{stands, find_at-some, occurs-stands}
@@ -54,9 +53,9 @@ pub find_at-first : (ending s : Text) (n : ℕ) → find_at ending s ≡ Some n 
 find_at-first ending [] n h j lt =
     let t = guard-some (starts_with nat_eq [] ending) 0 n h in absurd (omega (arith, t.1))
 find_at-first ending (b ∷ s) n h j lt = elim (chosen (starts_with nat_eq (b ∷ s) ending) _ _ _ h) [
-    | inl t ↦ (let same : 0 ≡ n = (let e = t.1 in cc) in absurd (omega (arith, same)))
-    | inr t ↦ (let m = mapped suc (find_at ending s) n t.1 in at j (m.0) m.2 (find_at-first ending s m.0 m.1) t.0 lt)
-  ]
+  | inl t ↦ (let same : 0 ≡ n = (let e = t.1 in cc) in absurd (omega (arith, same)))
+  | inr t ↦ (let m = mapped suc (find_at ending s) n t.1 in at j (m.0) m.2 (find_at-first ending s m.0 m.1) t.0 lt)
+]
   where
     at : (j m : ℕ) → suc m ≡ n → NotBefore ending s m → starts_with nat_eq (b ∷ s) ending ≡ false → j < n → stands ending (b ∷ s) j ≡ false
     at zero m e before here l = here
@@ -91,9 +90,9 @@ past_end (e ∷ ending) (b ∷ s) (suc j) some le h = past_end (e ∷ ending) s 
 find_at-within : (ending s : Text) (n : ℕ) → find_at ending s ≡ Some n → n ≤ length s
 find_at-within ending [] n h = let t = guard-some (starts_with nat_eq [] ending) 0 n h in omega (arith, t.1)
 find_at-within ending (b ∷ s) n h = elim (chosen (starts_with nat_eq (b ∷ s) ending) _ _ _ h) [
-    | inl t ↦ (let same : 0 ≡ n = (let e = t.1 in cc) in omega (arith, same))
-    | inr t ↦ (let m = mapped suc (find_at ending s) n t.1 in omega (arith, m.2, find_at-within ending s m.0 m.1))
-  ]
+  | inl t ↦ (let same : 0 ≡ n = (let e = t.1 in cc) in omega (arith, same))
+  | inr t ↦ (let m = mapped suc (find_at ending s) n t.1 in omega (arith, m.2, find_at-within ending s m.0 m.1))
+]
 
 pub record ReadsUpTo (ending s body rest : Text) : Type 0 where
   pub is_up_to : IsUpTo ending body (body ++ ending)
@@ -112,16 +111,16 @@ up_to_at-sound ending s body rest some h =
     last : (i : ℕ) → stands ending (body ++ ending) i ≡ true → (n : ℕ) → n ≡ length body → 0 < length ending → (body ++ ending) ++ rest ≡ s →
         length (body ++ ending) ≡ length body + length ending → find_at ending s ≡ Some n → i + length ending ≡ length (body ++ ending)
     last i h n size more whole sizes found = elim (cases_lt i (length (body ++ ending))) [
-        | inr past ↦ absurd (past_end ending (body ++ ending) i some past h)
-        | inl inside ↦
-            let fits = (occurs-stands (body ++ ending) ending i (omega arith) h).fits in
-            elim (cases_lt i n) [
-              | inr from ↦ omega (arith, fits, sizes, size)
-              | inl before ↦ absurd (
-                  let there : stands ending s i ≡ true = ap (λ t. stands ending t i) (sym whole) ∙ stands-within ending (body ++ ending) rest i fits ∙ h in
-                  let none : stands ending s i ≡ false = find_at-first ending s n found i before in
-                  let bad : true ≡ false = sym there ∙ none in cc)
-            ]
+      | inr past ↦ absurd (past_end ending (body ++ ending) i some past h)
+      | inl inside ↦
+          let fits = (occurs-stands (body ++ ending) ending i (omega arith) h).fits in
+          elim (cases_lt i n) [
+            | inr from ↦ omega (arith, fits, sizes, size)
+            | inl before ↦ absurd (
+                let there : stands ending s i ≡ true = ap (λ t. stands ending t i) (sym whole) ∙ stands-within ending (body ++ ending) rest i fits ∙ h in
+                let none : stands ending s i ≡ false = find_at-first ending s n found i before in
+                let bad : true ≡ false = sym there ∙ none in cc)
+          ]
     ]
 
     joined : (n : ℕ) (r : Text) → find_at ending s ≡ Some n → drop n s ≡ ending ++ r → (take n s ≡ body) × (r ≡ rest) → ReadsUpTo ending s body rest
@@ -138,11 +137,11 @@ up_to_at-sound ending s body rest some h =
 
 -- ---- instructions
 
-blank_not_name : (b : ℕ) → is_blank b ≡ true → is_name_byte b ≡ false
+pub blank_not_name : (b : ℕ) → is_blank b ≡ true → is_name_byte b ≡ false
 blank_not_name b h = elim (blank_cases b h) [
-    | inl l ↦ elim l [ inl e ↦ rw e refl | inr e ↦ rw e refl ]
-    | inr r ↦ elim r [ inl e ↦ rw e refl | inr e ↦ rw e refl ]
-  ]
+  | inl l ↦ elim l [ inl e ↦ rw e refl | inr e ↦ rw e refl ]
+  | inr r ↦ elim r [ inl e ↦ rw e refl | inr e ↦ rw e refl ]
+]
 
 body_stops : (body after : Text) → (body ≡ []) ⊎ (is_blank (slice_index body 0) ≡ true) → prefix_len is_name_byte (body ++ (codes "?>" ++ after)) ≡ 0
 body_stops [] after h = refl

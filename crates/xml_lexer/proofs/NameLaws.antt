@@ -1,12 +1,11 @@
 -- Names, and what ends them.
-use Rattle.std.proofs.Common.{◌≡◌, ◌+◌, ◌<◌, ◌&&◌, ◌||◌, ◌==◌, ◌⊎◌, inl, inr, ℕ, suc, Bool, true, false, cond, List, [], ◌∷◌, ◌++◌, length, take, drop, Option, Some, None, refl, sym, ◌∙◌, ap, subst, arith, eqb-true, get_or}
-use Rattle.std.specs.Prelude.{not, nat_lt}
+use Rattle.std.proofs.Common.{◌≡◌, ◌<◌, ◌&&◌, ◌⊎◌, inl, inr, ℕ, true, false, cond, [], ◌∷◌, ◌++◌, length, take, drop, Some, refl, sym, ◌∙◌, ap, subst, arith, eqb-true, get_or}
 use Rattle.std.specs.List.{list_all, prefix_len, position_or_len, before_first, after_first}
 use Rattle.std.proofs.lemmas.Bool.Decides.{nat_tests}
 use Rattle.std.proofs.lemmas.List.{take-append-drop}
 use Rattle.std.proofs.lemmas.List.Sums.{split_at_first, passes_at_first}
 use Rattle.std.proofs.lemmas.List.Folds.{list_all-append}
-use Rattle.xml_lexer.specs.Characters.{Text, is_blank, is_name_byte, starts_name, is_name, is_colon, has_prefix, is_spelled_name}
+use Rattle.xml_lexer.specs.Characters.{Text, is_blank, is_name_byte, is_name, is_colon, has_prefix, is_spelled_name}
 use Rattle.xml_lexer.specs.Spelling.{AreBlanks}
 use Rattle.xml_lexer.specs.Scan.{in_name, name_at, skip_blanks}
 use Rattle.xml_lexer.proofs.Runs.{both, guard-some, take-run, drop-run, list_all-run, prefix_len-behind}

@@ -1,5 +1,5 @@
 -- The table of the bytes of names has the rule's answer at each byte.
-use Rattle.std.proofs.Common.{◌≡◌, ◌≤◌, ◌<◌, ◌&&◌, ◌⊎◌, inl, inr, ℕ, zero, suc, Bool, true, false, cond, get_or, refl, sym, ◌∙◌, ap, subst, arith}
+use Rattle.std.proofs.Common.{◌≡◌, ◌<◌, ◌&&◌, ◌⊎◌, inl, inr, ℕ, zero, suc, Bool, true, false, cond, get_or, refl, arith}
 use Rattle.std.specs.Prelude.{not}
 use Rattle.xml_lexer.specs.Scan.{in_name}
 use Rattle.xml_lexer.proofs.Runs.{both}

@@ -1,14 +1,14 @@
 -- References are read exactly where they are spelled.
-use Rattle.std.proofs.Common.{◌≡◌, ◌+◌, ◌≤◌, ◌&&◌, ◌||◌, ◌==◌, ◌⊎◌, inl, inr, ℕ, zero, suc, Bool, true, false, cond, List, [], ◌∷◌, ◌++◌, length, take, drop, Option, Some, None, refl, sym, ◌∙◌, ap, subst, arith, eqb-true, eq-eqb, append_assoc}
-use Rattle.std.specs.Prelude.{not, nat_eq, is_some, codes}
-use Rattle.std.specs.List.{list_all, starts_with, position_or_len, prefix_len}
+use Rattle.std.proofs.Common.{◌≡◌, ◌||◌, ◌==◌, ◌⊎◌, inl, inr, ℕ, Bool, true, false, cond, [], ◌∷◌, ◌++◌, length, take, drop, Some, refl, sym, ◌∙◌, ap, subst, arith}
+use Rattle.std.specs.Prelude.{not, nat_eq, codes}
+use Rattle.std.specs.List.{list_all, starts_with, position_or_len}
 use Rattle.std.specs.Char.{is_ascii_digit, is_ascii_hexdigit, is_ascii_alphanumeric}
 use Rattle.std.specs.Cmp.Lexicographic.{bytes_decides}
 use Rattle.std.proofs.lemmas.Bool.Decides.{nat_tests}
 use Rattle.xml_lexer.specs.Characters.{Text}
-use Rattle.xml_lexer.specs.Spelling.{same, character, in_digits, named_character, IsReference, BeginsReference}
-use Rattle.xml_lexer.specs.Scan.{◌>>=◌, byte_at, reference_at}
-use Rattle.xml_lexer.proofs.Runs.{both, bind-then, same_pair, guard-some, take-run, drop-run, list_all-run, byte_at-some, byte_at-cons}
+use Rattle.xml_lexer.specs.Spelling.{same, in_digits, named_character}
+use Rattle.xml_lexer.specs.Scan.{byte_at, reference_at}
+use Rattle.xml_lexer.proofs.Runs.{both, bind-then, same_pair, take-run, drop-run, byte_at-some}
 use Rattle.std.proofs.lemmas.List.{take-append-drop}
 use Rattle.std.proofs.lemmas.List.Folds.{list_all-append}
 

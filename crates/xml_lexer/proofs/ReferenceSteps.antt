@@ -1,13 +1,12 @@
 -- A reference by the place of its `;`.
-use Rattle.std.proofs.Common.{◌≡◌, ◌+◌, ◌<◌, ◌≤◌, ◌==◌, ℕ, suc, List, [], ◌∷◌, length, take, drop, get_or, Option, Some, None, refl, sym, ◌∙◌, ap, arith, add-one, eqb-true, drop-cons}
+use Rattle.std.proofs.Common.{◌≡◌, ◌+◌, ◌<◌, ◌≤◌, ◌==◌, ℕ, suc, ◌∷◌, length, take, drop, Some, None, refl, ◌∙◌, ap, add-one, eqb-true, drop-cons}
 use Rattle.std.proofs.Math.ListN.{drop_of_length-le}
 use Rattle.std.specs.Prelude.{slice_index}
 use Rattle.std.specs.List.{position_or_len}
 use Rattle.std.proofs.lemmas.List.Sums.{passes_at_first}
 use Rattle.xml_lexer.specs.Characters.{Text}
 use Rattle.xml_lexer.specs.Spelling.{named_character}
-use Rattle.xml_lexer.specs.Scan.{◌>>=◌, reference_at}
-use Rattle.xml_lexer.proofs.Runs.{byte_at-cons}
+use Rattle.xml_lexer.specs.Scan.{reference_at}
 
 pub semicolon-is : (s : Text) → position_or_len (λ b. b == 59) s < length s → slice_index s (position_or_len (λ b. b == 59) s) ≡ 59
 semicolon-is s lt = eqb-true _ 59 (passes_at_first (λ b. b == 59) s 0 lt)

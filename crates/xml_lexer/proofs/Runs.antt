@@ -1,9 +1,7 @@
 -- Runs of bytes at the front of a text.
-use Rattle.std.proofs.Common.{◌≡◌, ◌+◌, ◌&&◌, ◌||◌, ◌==◌, ℕ, suc, Bool, true, false, cond, List, [], ◌∷◌, ◌++◌, length, take, drop, Option, Some, None, refl, sym, ◌∙◌, ap, arith, add-one, eq-eqb, eqb-true}
-use Rattle.std.specs.Prelude.{not, nat_lt}
-use Rattle.std.specs.List.{list_all, prefix_len, position_or_len}
+use Rattle.std.proofs.Common.{◌≡◌, ◌+◌, ◌&&◌, ◌==◌, ℕ, suc, Bool, true, false, cond, [], ◌∷◌, ◌++◌, length, take, drop, Option, Some, None, refl, ◌∙◌, ap, arith, eq-eqb, eqb-true}
+use Rattle.std.specs.List.{list_all, prefix_len}
 use Rattle.std.proofs.Math.Seq.{take-append_seam, drop-append_seam}
-use Rattle.std.proofs.lemmas.List.{take-append-drop}
 use Rattle.xml_lexer.specs.Characters.{Text}
 use Rattle.xml_lexer.specs.Scan.{◌>>=◌, byte_at}
 

@@ -1,6 +1,6 @@
 -- A spelled name by its first colon.
-use Rattle.std.proofs.Common.{◌≡◌, ◌+◌, ◌&&◌, ℕ, Bool, true, false, List, length, take, drop, Option, Some, None, refl, ap}
-use Rattle.std.specs.List.{position, position_or_len}
+use Rattle.std.proofs.Common.{◌≡◌, ◌+◌, ◌&&◌, ℕ, take, drop, Some, None, refl}
+use Rattle.std.specs.List.{position}
 use Rattle.xml_lexer.specs.Characters.{Text, is_colon, is_name, is_spelled_name}
 use Rattle.xml_lexer.proofs.Options.{position-none, position-some}
 

@@ -1,16 +1,15 @@
 -- Lists of attributes are read exactly where they are spelled.
-use Rattle.std.proofs.Common.{◌≡◌, ◌+◌, ◌≤◌, ◌<◌, ◌&&◌, ◌||◌, ◌==◌, ◌⊎◌, inl, inr, ℕ, zero, suc, Bool, true, false, cond, List, [], ◌∷◌, ◌++◌, length, take, drop, Option, Some, None, refl, sym, ◌∙◌, ap, subst, arith, eqb-true, eq-eqb, append_assoc, append-nil}
-use Rattle.std.specs.Prelude.{not, is_none, is_some, option_map, slice_index}
+use Rattle.std.proofs.Common.{◌≡◌, ◌≤◌, ◌==◌, ℕ, zero, suc, Bool, true, false, List, [], ◌∷◌, ◌++◌, length, Some, None, refl, ◌∙◌, ap, arith, append_assoc}
+use Rattle.std.specs.Prelude.{slice_index}
 use Rattle.std.specs.List.{list_all, prefix_len}
 use Rattle.std.proofs.lemmas.Bool.Decides.{nat_tests}
 use Rattle.xml_lexer.specs.Characters.{Text, is_blank, is_spelled_name}
 use Rattle.xml_lexer.specs.Token.{Spelled}
-use Rattle.xml_lexer.specs.Spelling.{AreBlanks, IsAttribute, AreAttributes, tag_end}
-use Rattle.xml_lexer.specs.Scan.{◌>>=◌, in_name, skip_blanks, attribute_at, tag_end_at, no_attributes_at, attributes_at}
-use Rattle.xml_lexer.proofs.Runs.{both, bind-then, same_pair, byte_at-some, byte_at-cons}
-use Rattle.xml_lexer.proofs.NameLaws.{skip_blanks-complete, skip_blanks-sound, spelled-all_in_name}
-use Rattle.xml_lexer.proofs.ReferenceLaws.{chosen}
-use Rattle.xml_lexer.proofs.AttributeLaws.{attribute_at-complete, attribute_at-sound, ReadsAttribute}
+use Rattle.xml_lexer.specs.Spelling.{AreBlanks, AreAttributes, tag_end}
+use Rattle.xml_lexer.specs.Scan.{◌>>=◌, in_name, skip_blanks, attribute_at, tag_end_at, attributes_at}
+use Rattle.xml_lexer.proofs.Runs.{both}
+use Rattle.xml_lexer.proofs.NameLaws.{skip_blanks-complete, spelled-all_in_name}
+use Rattle.xml_lexer.proofs.AttributeLaws.{attribute_at-complete}
 use Rattle.xml_lexer.proofs.AttributeSteps.{attributes_at-end}
 
 pub tag_end_at-complete : (e : Bool) (rest : Text) → tag_end_at (tag_end e ++ rest) ≡ Some (e, rest)

@@ -1,11 +1,10 @@
 -- Tags are read exactly where they are spelled.
-use Rattle.std.proofs.Common.{◌≡◌, ◌+◌, ◌<◌, ◌≤◌, ◌&&◌, ◌||◌, ◌==◌, ◌⊎◌, inl, inr, ℕ, suc, Bool, true, false, cond, List, [], ◌∷◌, ◌++◌, length, take, drop, Option, Some, None, refl, sym, ◌∙◌, ap, subst, arith, eqb-true, append_assoc}
-use Rattle.std.specs.List.{list_all, prefix_len}
+use Rattle.std.proofs.Common.{◌≡◌, true, ◌∷◌, ◌++◌, Some, refl, ◌∙◌, ap}
+use Rattle.std.specs.List.{prefix_len}
 use Rattle.xml_lexer.specs.Characters.{Text, is_blank, is_spelled_name}
-use Rattle.xml_lexer.specs.Token.{Spelled}
 use Rattle.xml_lexer.specs.Spelling.{AreBlanks}
 use Rattle.xml_lexer.specs.Scan.{in_name, name_at, byte_at, skip_blanks, end_tag_at}
-use Rattle.xml_lexer.proofs.Runs.{both, bind-then, same_pair, guard-some, byte_at-some, byte_at-cons}
+use Rattle.xml_lexer.proofs.Runs.{bind-then, same_pair, byte_at-some}
 use Rattle.xml_lexer.proofs.NameLaws.{name-stops, name_at-complete, name_at-sound, skip_blanks-complete, skip_blanks-sound}
 
 pub end_tag_at-complete : (name gap rest : Text) → is_spelled_name name ≡ true → AreBlanks gap → end_tag_at (name ++ (gap ++ (62 ∷ rest))) ≡ Some (name, rest)

@@ -1,24 +1,23 @@
 -- A token is read exactly where a text begins with it.
-use Rattle.std.proofs.Common.{◌≡◌, ◌+◌, ◌≤◌, ◌<◌, ◌&&◌, ◌||◌, ◌==◌, ◌⊎◌, inl, inr, ℕ, zero, suc, Bool, true, false, cond, List, [], ◌∷◌, ◌++◌, length, take, drop, Option, Some, None, refl, sym, ◌∙◌, ap, subst, arith, eqb-true, eq-eqb, append_assoc, append-nil, length-append}
-use Rattle.std.specs.Prelude.{not, option_map, slice_index, nat_eq, codes}
+use Rattle.std.proofs.Common.{◌≡◌, ◌+◌, ◌≤◌, ◌<◌, ◌==◌, ◌⊎◌, inl, inr, ℕ, suc, Bool, true, false, cond, List, [], ◌∷◌, ◌++◌, length, take, drop, Option, Some, None, refl, sym, ◌∙◌, ap, subst, arith, append_assoc}
+use Rattle.std.specs.Prelude.{option_map, slice_index, codes}
 use Rattle.std.specs.List.{list_all, prefix_len}
 use Rattle.std.specs.Str.{str_eq_ignore_ascii_case}
 use Rattle.std.proofs.lemmas.Bool.Decides.{nat_tests}
 use Rattle.std.proofs.lemmas.List.{take-append-drop}
 use Rattle.xml_lexer.specs.Characters.{Text, is_blank, is_name, is_spelled_name}
 use Rattle.xml_lexer.specs.Token.{Token, declaration, instruction, comment, cdata, start, end, reference, text, Spelled}
-use Rattle.xml_lexer.specs.Spelling.{AreBlanks, IsAttribute, AreAttributes, tag_end, max_attributes, is_text_byte, IsSpelled, IsReference, IsFirst, named_character}
+use Rattle.xml_lexer.specs.Spelling.{AreBlanks, AreAttributes, tag_end, max_attributes, is_text_byte, IsSpelled, IsFirst, named_character}
 use Rattle.xml_lexer.specs.Cut.{Begins, MayStand}
-use Rattle.xml_lexer.specs.Scan.{◌>>=◌, in_name, name_at, byte_at, literal_at, attributes_at, end_tag_at, reference_at, text_at, up_to_at, instruction_at, declaration_at}
+use Rattle.xml_lexer.specs.Scan.{in_name, name_at, byte_at, literal_at, attributes_at, end_tag_at, reference_at, text_at, up_to_at, instruction_at}
 use Rattle.xml_lexer.specs.Cutting.{when, start_tag_at, comment_at, character_data_at, end_at, instruction_token_at, reference_token_at, text_token_at, section_at, markup_at, token_at}
 use Rattle.xml_lexer.proofs.Runs.{both, bind-then, same_pair, take-run, drop-run, list_all-run, prefix_len-behind, byte_at-some}
 use Rattle.xml_lexer.proofs.NameLaws.{name-stops, name_at-complete, name_at-sound, in_name-blank}
 use Rattle.xml_lexer.proofs.TagLaws.{end_tag_at-complete, end_tag_at-sound}
-use Rattle.xml_lexer.proofs.ReferenceLaws.{chosen, reference_at-complete, reference_at-sound}
-use Rattle.xml_lexer.proofs.ValueLaws.{mapped}
-use Rattle.xml_lexer.proofs.StartTagLaws.{BeginsName, begins_name, attributes_at-complete}
+use Rattle.xml_lexer.proofs.ReferenceLaws.{reference_at-complete, reference_at-sound}
+use Rattle.xml_lexer.proofs.StartTagLaws.{begins_name, attributes_at-complete}
 use Rattle.xml_lexer.proofs.SoundLaws.{ReadsAttributes, attributes_at-sound}
-use Rattle.xml_lexer.proofs.MarkupLaws.{literal_at-sound, ReadsUpTo, up_to_at-complete, up_to_at-sound, ReadsInstruction, instruction_at-complete, instruction_at-sound}
+use Rattle.xml_lexer.proofs.MarkupLaws.{literal_at-sound, up_to_at-complete, up_to_at-sound, instruction_at-complete, instruction_at-sound}
 
 -- ---- a token that a text begins with is read
 
@@ -272,34 +271,34 @@ behind_of (Some x) token rest k after h = let same = same_pair {A = Token} (toke
 section-sound : (s : Text) (k : Token) (after : Text) → section_at s ≡ Some (k, after) → Reads (60 ∷ s) k after
 unfolding section_at
 section-sound s k after h = elim (chosen_when (literal_at (codes "!--") s) comment_at _ (k, after) h) [
-    | inl t ↦
-        let found = behind_of (up_to_at (codes "-->") t.0) (λ x. comment) (λ x. x.1) k after t.2 in
-        let whole : codes "<!--" ++ t.0 ≡ 60 ∷ s = ap (λ u. 60 ∷ u) (sym (literal_at-sound (codes "!--") s t.0 t.1)) in
-        subst (λ u. Reads u k after) whole (subst (λ x. Reads (codes "<!--" ++ t.0) x after) found.2 (comment_of t.0 after found.0 found.1 found.3))
-    | inr t ↦ elim (chosen_when (literal_at (codes "![CDATA[") s) character_data_at _ (k, after) t.1) [
-        | inl u ↦
-            let found = behind_of (up_to_at (codes "]]>") u.0) (λ x. cdata x.0) (λ x. x.1) k after u.2 in
-            let whole : codes "<![CDATA[" ++ u.0 ≡ 60 ∷ s = ap (λ v. 60 ∷ v) (sym (literal_at-sound (codes "![CDATA[") s u.0 u.1)) in
-            subst (λ v. Reads v k after) whole (subst (λ x. Reads (codes "<![CDATA[" ++ u.0) x after) found.2 (cdata_of u.0 found.0.0 after found.0 found.1 refl found.3))
-        | inr u ↦ reads_start s after k u.1
-      ]
+  | inl t ↦
+      let found = behind_of (up_to_at (codes "-->") t.0) (λ x. comment) (λ x. x.1) k after t.2 in
+      let whole : codes "<!--" ++ t.0 ≡ 60 ∷ s = ap (λ u. 60 ∷ u) (sym (literal_at-sound (codes "!--") s t.0 t.1)) in
+      subst (λ u. Reads u k after) whole (subst (λ x. Reads (codes "<!--" ++ t.0) x after) found.2 (comment_of t.0 after found.0 found.1 found.3))
+  | inr t ↦ elim (chosen_when (literal_at (codes "![CDATA[") s) character_data_at _ (k, after) t.1) [
+    | inl u ↦
+        let found = behind_of (up_to_at (codes "]]>") u.0) (λ x. cdata x.0) (λ x. x.1) k after u.2 in
+        let whole : codes "<![CDATA[" ++ u.0 ≡ 60 ∷ s = ap (λ v. 60 ∷ v) (sym (literal_at-sound (codes "![CDATA[") s u.0 u.1)) in
+        subst (λ v. Reads v k after) whole (subst (λ x. Reads (codes "<![CDATA[" ++ u.0) x after) found.2 (cdata_of u.0 found.0.0 after found.0 found.1 refl found.3))
+    | inr u ↦ reads_start s after k u.1
   ]
+]
 
 markup-sound : (s : Text) (k : Token) (after : Text) → markup_at s ≡ Some (k, after) → Reads (60 ∷ s) k after
 unfolding markup_at
 markup-sound s k after h = elim (chosen_when (byte_at 47 s) end_at _ (k, after) h) [
-    | inl t ↦
-        let found = behind_of (end_tag_at t.0) (λ x. end x.0) (λ x. x.1) k after t.2 in
-        let whole : 60 ∷ (47 ∷ t.0) ≡ 60 ∷ s = ap (λ u. 60 ∷ u) (sym (byte_at-some 47 s t.0 t.1)) in
-        subst (λ u. Reads u k after) whole (subst (λ x. Reads (60 ∷ (47 ∷ t.0)) x after) found.2 (subst (λ r. Reads (60 ∷ (47 ∷ t.0)) (end found.0.0) r) found.3 (reads_end t.0 found.0.1 found.0.0 found.1)))
-    | inr t ↦ elim (chosen_when (byte_at 63 s) instruction_token_at _ (k, after) t.1) [
-        | inl u ↦
-            let found = behind_of (instruction_at u.0) (λ x. instruction) (λ x. x) k after u.2 in
-            let whole : codes "<?" ++ u.0 ≡ 60 ∷ s = ap (λ v. 60 ∷ v) (sym (byte_at-some 63 s u.0 u.1)) in
-            subst (λ v. Reads v k after) whole (subst (λ x. Reads (codes "<?" ++ u.0) x after) found.2 (subst (λ r. Reads (codes "<?" ++ u.0) instruction r) found.3 (instruction_of u.0 found.0 found.1)))
-        | inr u ↦ section-sound s k after u.1
-      ]
+  | inl t ↦
+      let found = behind_of (end_tag_at t.0) (λ x. end x.0) (λ x. x.1) k after t.2 in
+      let whole : 60 ∷ (47 ∷ t.0) ≡ 60 ∷ s = ap (λ u. 60 ∷ u) (sym (byte_at-some 47 s t.0 t.1)) in
+      subst (λ u. Reads u k after) whole (subst (λ x. Reads (60 ∷ (47 ∷ t.0)) x after) found.2 (subst (λ r. Reads (60 ∷ (47 ∷ t.0)) (end found.0.0) r) found.3 (reads_end t.0 found.0.1 found.0.0 found.1)))
+  | inr t ↦ elim (chosen_when (byte_at 63 s) instruction_token_at _ (k, after) t.1) [
+    | inl u ↦
+        let found = behind_of (instruction_at u.0) (λ x. instruction) (λ x. x) k after u.2 in
+        let whole : codes "<?" ++ u.0 ≡ 60 ∷ s = ap (λ v. 60 ∷ v) (sym (byte_at-some 63 s u.0 u.1)) in
+        subst (λ v. Reads v k after) whole (subst (λ x. Reads (codes "<?" ++ u.0) x after) found.2 (subst (λ r. Reads (codes "<?" ++ u.0) instruction r) found.3 (instruction_of u.0 found.0 found.1)))
+    | inr u ↦ section-sound s k after u.1
   ]
+]
 
 none_byte : (wanted b : ℕ) (s : Text) → byte_at wanted (b ∷ s) ≡ None → (b == wanted) ≡ false
 none_byte wanted b s h = cases (b == wanted) h
@@ -312,17 +311,17 @@ pub token_at-sound : (bytes : Text) (k : Token) (after : Text) → token_at byte
 unfolding token_at text_token_at
 token_at-sound [] k after h = absurd (let bad : ⊥ = cc in bad)
 token_at-sound (b ∷ s) k after h = elim (chosen_when (byte_at 60 (b ∷ s)) markup_at _ (k, after) h) [
-    | inl t ↦ subst (λ u. Reads u k after) (sym (byte_at-some 60 (b ∷ s) t.0 t.1)) (markup-sound t.0 k after t.2)
-    | inr t ↦ elim (chosen_when (byte_at 38 (b ∷ s)) reference_token_at _ (k, after) t.1) [
-        | inl u ↦
-            let found = behind_of (reference_at u.0) (λ x. reference x.0) (λ x. x.1) k after u.2 in
-            subst (λ v. Reads v k after) (sym (byte_at-some 38 (b ∷ s) u.0 u.1))
-            (subst (λ x. Reads (38 ∷ u.0) x after) found.2 (subst (λ r. Reads (38 ∷ u.0) (reference found.0.0) r) found.3 (reference_of u.0 found.0.1 found.0.0 found.1)))
-        | inr u ↦
-            let less = none_byte 60 b s t.0 in
-            let amp = none_byte 38 b s u.0 in
-            let plain : is_text_byte b ≡ true = rw (less, amp) refl in
-            let same = same_pair {A = Token} (text (text_at (b ∷ s)).0) k (text_at (b ∷ s)).1 after u.1 in
-            subst (λ r. Reads (b ∷ s) k r) same.1 (subst (λ x. Reads (b ∷ s) x (text_at (b ∷ s)).1) same.0 (text_of b s plain))
-      ]
+  | inl t ↦ subst (λ u. Reads u k after) (sym (byte_at-some 60 (b ∷ s) t.0 t.1)) (markup-sound t.0 k after t.2)
+  | inr t ↦ elim (chosen_when (byte_at 38 (b ∷ s)) reference_token_at _ (k, after) t.1) [
+    | inl u ↦
+        let found = behind_of (reference_at u.0) (λ x. reference x.0) (λ x. x.1) k after u.2 in
+        subst (λ v. Reads v k after) (sym (byte_at-some 38 (b ∷ s) u.0 u.1))
+        (subst (λ x. Reads (38 ∷ u.0) x after) found.2 (subst (λ r. Reads (38 ∷ u.0) (reference found.0.0) r) found.3 (reference_of u.0 found.0.1 found.0.0 found.1)))
+    | inr u ↦
+        let less = none_byte 60 b s t.0 in
+        let amp = none_byte 38 b s u.0 in
+        let plain : is_text_byte b ≡ true = rw (less, amp) refl in
+        let same = same_pair {A = Token} (text (text_at (b ∷ s)).0) k (text_at (b ∷ s)).1 after u.1 in
+        subst (λ r. Reads (b ∷ s) k r) same.1 (subst (λ x. Reads (b ∷ s) x (text_at (b ∷ s)).1) same.0 (text_of b s plain))
   ]
+]

@@ -1,14 +1,13 @@
 -- Values are read exactly where they are spelled.
-use Rattle.std.proofs.Common.{◌≡◌, ◌+◌, ◌≤◌, ◌&&◌, ◌||◌, ◌==◌, ◌⊎◌, inl, inr, ℕ, zero, suc, Bool, true, false, cond, List, [], ◌∷◌, ◌++◌, length, take, drop, Option, Some, None, refl, sym, ◌∙◌, ap, subst, arith, eqb-true, eq-eqb, append_assoc, add-one}
+use Rattle.std.proofs.Common.{◌≡◌, ◌&&◌, ◌||◌, ◌==◌, inl, inr, ℕ, zero, suc, Bool, true, false, [], ◌∷◌, ◌++◌, length, drop, Option, Some, None, refl, sym, ◌∙◌, ap, subst, arith, eqb-true, eq-eqb, append_assoc}
 use Rattle.std.specs.Prelude.{not, is_none, option_map, slice_index}
 use Rattle.std.specs.List.{list_all}
-use Rattle.std.proofs.Math.Seq.{take-append_seam, drop-append_seam}
 use Rattle.std.proofs.lemmas.Bool.Decides.{nat_tests}
 use Rattle.std.proofs.lemmas.List.Folds.{list_all-append}
 use Rattle.xml_lexer.specs.Characters.{Text}
-use Rattle.xml_lexer.specs.Spelling.{IsReference, BeginsReference, is_value_byte, IsValue, IsQuote, named_character}
-use Rattle.xml_lexer.specs.Scan.{◌>>=◌, reference_at, value_len, value_at, quoted_at}
-use Rattle.xml_lexer.proofs.Runs.{both, bind-then, same_pair, guard-some}
+use Rattle.xml_lexer.specs.Spelling.{BeginsReference, is_value_byte, IsValue, IsQuote}
+use Rattle.xml_lexer.specs.Scan.{reference_at, value_len}
+use Rattle.xml_lexer.proofs.Runs.{both}
 use Rattle.xml_lexer.proofs.ReferenceLaws.{is_reference_byte, chosen, named-bytes, reference_at-complete, reference_at-sound}
 
 not_either : (x y : Bool) → not (x || y) ≡ true → (x ≡ false) × (y ≡ false)

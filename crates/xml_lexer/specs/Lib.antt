@@ -7,3 +7,4 @@ pub mod View
 pub mod Refusal
 pub mod Scan
 pub mod Cutting
+pub mod Reading

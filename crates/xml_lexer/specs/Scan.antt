@@ -1,5 +1,5 @@
 -- Reading from the front of a text: each gives what was read and the text behind it.
-use Rattle.std.specs.Prelude.{ℕ, zero, suc, ◌+◌, ◌&&◌, ◌||◌, ◌==◌, Bool, true, false, not, nat_eq, is_some, is_none, if◌then◌else◌, List, [], ◌∷◌, ◌++◌, length, take, drop, slice_index, Option, Some, None, option_map, codes}
+use Rattle.std.specs.Prelude.{ℕ, zero, suc, ◌+◌, ◌&&◌, ◌||◌, ◌==◌, Bool, true, false, not, nat_eq, nat_lt, nat_le, is_some, is_none, if◌then◌else◌, List, [], ◌∷◌, ◌++◌, length, take, drop, slice_index, Option, Some, None, option_map, codes}
 use Rattle.std.specs.List.{prefix_len, position_or_len, starts_with}
 use Rattle.std.specs.Str.{str_eq_ignore_ascii_case}
 use Rattle.xml_lexer.specs.Characters.{Text, is_blank, is_name_byte, is_name, is_colon, is_spelled_name}
@@ -166,3 +166,15 @@ declaration_at s = do
   let parts = parts_at behind
   rest ← literal_at (codes "?>") (skip_blanks parts.1)
   if is_none parts.0.0.0 && is_none parts.0.0.1 && is_none parts.0.1 then None else Some (parts.0.0.1, rest)
+
+-- ---- characters
+
+-- a character begins that no document may have: a control that is no blank, or U+FFFE or U+FFFF
+abbrev pub starts_bad : Text → Bool
+starts_bad [] = false
+starts_bad (b ∷ s) = (nat_lt b 32 && not (is_blank b)) || (b == 239 && (slice_index s 0 == 191 && nat_le 190 (slice_index s 1)))
+
+-- how many bytes stand before the first such character
+abbrev pub front_len : Text → ℕ
+front_len [] = 0
+front_len (b ∷ s) = if starts_bad (b ∷ s) then 0 else suc (front_len s)

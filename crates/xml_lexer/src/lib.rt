@@ -5,13 +5,17 @@
 #![tactic(auto)]
 
 mod characters;
+mod document;
 mod fault;
+mod front;
+pub mod laws;
 mod lexer;
 mod markup;
 mod reference;
 mod scan;
 mod token;
 
+pub use document::read_tokens;
 pub use fault::TokenFault;
 pub use reference::named_character;
 pub use token::{SpelledAttribute, StartTag, Token};

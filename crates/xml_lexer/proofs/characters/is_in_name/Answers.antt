@@ -1,4 +1,3 @@
-use Rattle.std.proofs.Common.{◌<◌, arith}
 use Rattle.xml_lexer.proofs.NameTable.{in_table}
 use Rattle.xml_lexer.proofs.characters.is_in_name.Goals as goal
 

@@ -1,7 +1,5 @@
-use Rattle.std.proofs.Common.{◌≡◌, sym, ◌∙◌, rules, arith}
+use Rattle.std.proofs.Common.{arith}
 use Rattle.std.proofs.lemmas.Grind.{common_steps}
-use Rattle.std.proofs.lemmas.List.{take_rest}
-use Rattle.xml_lexer.specs.Characters as spec
 use Rattle.xml_lexer.proofs.SpelledNames.{is_spelled_name-plain, is_spelled_name-colon}
 use Rattle.xml_lexer.proofs.characters.is_spelled_name.Goals as goal
 

@@ -1,4 +1,4 @@
-use Rattle.std.proofs.Common.{◌≡◌, sym, ◌∙◌, ap}
+use Rattle.std.proofs.Common.{sym, ◌∙◌, ap}
 use Rattle.xml_lexer.proofs.FirstPlaces.{end_of, text_end}
 use Rattle.xml_lexer.proofs.lexer.text_len.Goals as goal
 

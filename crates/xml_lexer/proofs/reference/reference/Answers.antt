@@ -1,4 +1,4 @@
-use Rattle.std.proofs.Common.{◌≡◌, ◌≤◌, ◌<◌, ◌==◌, length, sym, ◌∙◌, ap, take, Some, None, arith}
+use Rattle.std.proofs.Common.{◌≡◌, ◌==◌, sym, take, Some, None, arith}
 use Rattle.std.specs.List.{position_or_len}
 use Rattle.xml_lexer.specs.Spelling.{named_character}
 use Rattle.xml_lexer.proofs.ReferenceSteps.{semicolon-is, reference_at-none, reference_at-unnamed, reference_at-named}

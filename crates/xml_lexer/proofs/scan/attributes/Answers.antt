@@ -1,7 +1,6 @@
-use Rattle.std.proofs.Common.{◌≡◌, ◌+◌, ◌-◌, ◌<◌, ◌++◌, ℕ, zero, suc, List, [], ◌∷◌, Some, None, Bool, true, false, map, sym, ◌∙◌, ap, arith, refl, rules}
+use Rattle.std.proofs.Common.{◌+◌, ◌-◌, sym, ◌∙◌, arith, rules}
 use Rattle.std.proofs.lemmas.List.{map-append}
-use Rattle.xml_lexer.specs.Characters.{is_blank}
-use Rattle.xml_lexer.specs.Scan.{skip_blanks, tag_end_at, attribute_at, attributes_at, with_front}
+use Rattle.xml_lexer.specs.Scan.{tag_end_at, attribute_at}
 use Rattle.xml_lexer.specs.View.{all_spelled, spelled}
 use Rattle.xml_lexer.proofs.Options.{none_read, some_read}
 use Rattle.xml_lexer.proofs.AttributeSteps.{front-end, front-no_blank, front-bad, front-more, front-last}
@@ -29,11 +28,13 @@ returns-in_default-attribute c =
 pub loop-preserved : goal.loop-preserved
 loop-preserved c =
     let h = none_read (λ x. (x.0, x.1.now)) c.tag_end.result (tag_end_at c.skip_blanks-ahead.result.now) c.tag_end.ensures c.in_default.not-Some in
-    let a = some_read (λ x. (spelled x.0, x.1.now)) c.attribute.result (attribute_at c.skip_blanks-ahead.result.now) _ c.attribute.ensures c.in-Some-attribute.is in
-    (rw (c.in_ok-push.ensures.items, map-append)
-    (front-more (all_spelled c.loop.attributes.items) (64 - (c.loop.counter + 1)) (64 - c.loop.counter) c.loop.rest.now (spelled c.in-Some-attribute.attribute)
-    c.in-Some-attribute.after.now _ (omega arith)
-    (rw (← c.skip_blanks-ahead.ensures) h) (sym c.starts_with_blank.ensures ∙ c.if-not-starts_with_blank.false) (rw (← c.skip_blanks-ahead.ensures) a) c.loop.invariant.0), search rules)
+    let a = some_read (λ x. (spelled x.0, x.1.now)) c.attribute.result (attribute_at c.skip_blanks-ahead.result.now) _ c.attribute.ensures c.in-Some-attribute.is in (
+      rw (c.in_ok-push.ensures.items, map-append)
+          (front-more (all_spelled c.loop.attributes.items) (64 - (c.loop.counter + 1)) (64 - c.loop.counter) c.loop.rest.now (spelled c.in-Some-attribute.attribute)
+          c.in-Some-attribute.after.now _ (omega arith)
+          (rw (← c.skip_blanks-ahead.ensures) h) (sym c.starts_with_blank.ensures ∙ c.if-not-starts_with_blank.false) (rw (← c.skip_blanks-ahead.ensures) a) c.loop.invariant.0),
+      search rules,
+    )
 
 pub returns-in-None : goal.returns-in-None
 returns-in-None c =

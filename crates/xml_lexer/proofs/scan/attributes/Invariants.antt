@@ -1,4 +1,4 @@
-use Rattle.std.proofs.Common.{◌≡◌, ◌-◌, ◌≤◌}
+use Rattle.std.proofs.Common.{◌≡◌, ◌-◌}
 use denote.Shadow.{shadow}
 use denote.Text.{Utf8}
 use Rattle.xml_lexer.specs.View.{all_spelled}

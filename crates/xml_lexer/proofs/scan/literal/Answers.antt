@@ -1,7 +1,6 @@
-use Rattle.std.proofs.Common.{◌≡◌, ◌≤◌, length, true, refl, subst, sym, ◌∙◌, arith, IsUtf8}
+use Rattle.std.proofs.Common.{◌≡◌, true, refl, sym, ◌∙◌}
 use Rattle.std.specs.Prelude.{nat_eq}
 use Rattle.std.specs.List.{starts_with}
-use Rattle.std.specs.Str.{IsCharBoundary}
 use Rattle.xml_lexer.proofs.Boundaries.{behind_literal}
 use Rattle.xml_lexer.proofs.scan.literal.Goals as goal
 

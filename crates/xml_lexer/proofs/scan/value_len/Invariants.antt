@@ -1,4 +1,4 @@
-use Rattle.std.proofs.Common.{◌≡◌, ◌+◌, length, drop, option_map}
+use Rattle.std.proofs.Common.{◌≡◌, ◌+◌, drop, option_map}
 use Rattle.xml_lexer.specs.Scan.{value_len}
 use Rattle.xml_lexer.proofs.scan.value_len.Given as goal
 
