@@ -1,0 +1,10 @@
+pub mod Entries
+pub mod Files
+pub mod Gates
+pub mod OneReading
+pub mod Pushing
+pub mod Split
+pub mod Headers
+pub mod Writing
+pub mod Told
+pub mod Sound

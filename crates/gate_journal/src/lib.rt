@@ -1,0 +1,20 @@
+//! Payloads on a disk. A payload that was added is there after a crash at any later moment.
+//!
+//! The journal knows bytes alone: what a payload means is not its concern. Its contract speaks of the list of payloads,
+//! and of the disk through the disk's own contract.
+#![tactic(auto)]
+
+mod entry;
+mod fault;
+mod gate;
+mod journal;
+mod laws;
+mod load;
+mod make;
+mod payloads;
+mod reading;
+mod room;
+
+pub use fault::JournalFault;
+pub use journal::Journal;
+pub use laws::one_reading;
