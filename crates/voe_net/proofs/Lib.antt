@@ -4,3 +4,6 @@ pub mod Numbered
 pub mod Replied
 pub mod Stepped
 pub mod Reported
+pub mod Passed
+pub mod Examples
+pub mod Carried

@@ -5,5 +5,6 @@ pub mod Replies
 pub mod Flights
 pub mod Start
 pub mod Owed
+pub mod Passed
 pub mod Report
 pub mod Whole

@@ -6,6 +6,7 @@
 #![tactic(auto)]
 
 mod fault;
+mod happen;
 mod index;
 mod lines;
 mod network;

@@ -7,14 +7,15 @@ ghost use Rattle.voe_net.specs.Report.{report_of};
 ghost use Rattle.voe_net.specs.Whole.{after_all, after_event};
 
 use crate::fault::NetFault;
+use crate::happen::happen;
 use crate::index::Index;
 use crate::report::report;
-use crate::start::start;
-use crate::steps::{arrive, hear, send, write};
+use crate::start::{first_places, start};
 use net_model::{Event, Graph, State};
 use std::alloc::Global;
 use std::marker::Model;
-use voe_values::{Bytes, NoMemory};
+use std::mem;
+use voe_values::{Bytes, Listing, NoMemory};
 
 /// A network of nodes over a graph, with the packets that its authors may write, stepped an event at a time.
 #[derive(Drop)]
@@ -24,18 +25,21 @@ pub struct Network<'a> {
     packets: &'a [Bytes],
     index: Index,
     state: State,
+    /// For each edge a place of its upper node's records before which none is to be sent; none at all after a fault.
+    places: Listing<usize>,
 }
 
 impl<'a> Model for Network<'a> {
     ghost use Rattle.std.specs.Prelude.{◌≡◌, ◌<◌, ◌^◌, length};
     ghost use Rattle.voe_net.specs.Index.{index_of};
+    ghost use Rattle.voe_net.specs.Passed.{AllPassed};
     ghost use Rattle.voe_net.specs.Whole.{Whole};
 
     ghost Value = { Whole };
 
     ghost view = { λ n. record { graph = n.graph.now; packets = n.packets.now; state = n.state } };
 
-    ghost invariant = { λ n. n.index ≡ index_of n.graph.now };
+    ghost invariant = { λ n. (n.index ≡ index_of n.graph.now) × AllPassed n.graph.now n.state n.places };
 }
 
 impl<'a> Network<'a> {
@@ -50,12 +54,14 @@ impl<'a> Network<'a> {
     {
         let index = Index::new(alloc, graph)?;
         let state = start(alloc, graph, &index)?;
+        let places = first_places(alloc, graph.edges.len())?;
         Ok(Network {
             alloc,
             graph,
             packets,
             index,
             state,
+            places,
         })
     }
 
@@ -65,33 +71,17 @@ impl<'a> Network<'a> {
         requires { IsTraffic event.now }
         ensures { OnOk result (self.new ≡ after_event self.old event.now) }
     {
-        match event {
-            Event::Write { author, packet } => {
-                if let Some(packet) = self.packets.get(usize::from(*packet)) {
-                    write(self.graph, &mut self.state, usize::from(*author), packet)?;
-                }
-            }
-            Event::Send { edge } => send(
-                self.graph,
-                &self.index,
-                &mut self.state,
-                usize::from(*edge),
-            )?,
-            Event::Down { edge } => arrive(
-                self.alloc,
-                self.graph,
-                &self.index,
-                &mut self.state,
-                usize::from(*edge),
-            )?,
-            Event::Up { edge } => hear(
-                self.graph,
-                &self.index,
-                &mut self.state,
-                usize::from(*edge),
-            )?,
-            _ => unreachable!(),
-        }
+        let mut places = mem::replace(&mut self.places, Listing::new(self.alloc));
+        happen(
+            self.alloc,
+            self.graph,
+            self.packets,
+            &self.index,
+            &mut self.state,
+            &mut places,
+            event,
+        )?;
+        self.places = places;
         Ok(())
     }
 

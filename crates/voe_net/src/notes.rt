@@ -1,10 +1,11 @@
 //! What the notes of a node say.
 
-ghost use Rattle.std.specs.Prelude.{◌≡◌, ◌==◌, None, Some, MatchOption, option_map};
+ghost use Rattle.std.specs.Prelude.{◌≡◌, ◌==◌, None, Some, MatchOption, ◌<◌, length, option_map};
 ghost use Rattle.std.specs.List.{list_any};
 ghost use Rattle.std.specs.Option.{option_copied};
 ghost use Rattle.net_model.specs.Notes.{brings, first_to_send as first_placed, is_answer, is_open as is_open_among, knows as knows_among, lists as lists_number, offers, to_send};
 ghost use Rattle.voe_net.specs.Flights.{sent_of};
+ghost use Rattle.voe_net.specs.Passed.{IsPassed};
 
 use net_model::Note;
 use voe_values::Bytes;
@@ -143,21 +144,27 @@ fn packet_to_send<'a>(notes: &[Note], number: u16, note: &'a Note) -> Option<&'a
     }
 }
 
-/// The first packet that is to be sent and was not sent on this connection, with its note's place.
+/// The first packet that is to be sent and was not sent on this connection, with its record's place. No record before
+/// a place that is given has such a packet, and none before the place that is found.
 pub fn first_to_send<'a>(
     notes: &'a [Note],
     number: u16,
     sent: &[usize],
+    from: usize,
 ) -> Option<(usize, &'a Bytes)>
-    ensures { MatchOption result
+    requires { IsPassed notes.now number sent.now from }
+    ensures found { MatchOption result
         (first_placed notes.now number sent.now 0 notes.now ≡ None)
         (λ first. option_map sent_of (first_placed notes.now number sent.now 0 notes.now) ≡ Some (first.0, first.1.now)) }
+    ensures passed { MatchOption result
+        (IsPassed notes.now number sent.now (length notes.now))
+        (λ first. (first.0 < length notes.now) × IsPassed notes.now number sent.now first.0) }
 {
-    for (place, note) in notes.iter().enumerate() {
+    for place in from..notes.len() {
         if was_sent(sent, place) {
             continue;
         }
-        if let Some(packet) = packet_to_send(notes, number, note) {
+        if let Some(packet) = packet_to_send(notes, number, &notes[place]) {
             return Some((place, packet));
         }
     }

@@ -120,3 +120,16 @@ pub fn start(alloc: Global, graph: &Graph, index: &Index) -> Result<State, NoMem
     let wires = start_wires(alloc, graph, index, &nodes)?;
     Ok(State { nodes, wires })
 }
+
+/// For each edge the place from which its upper node's records are to be looked at: at first the first.
+pub fn first_places(alloc: Global, edges: usize) -> Result<Listing<usize>, NoMemory>
+    ensures { IfOk result (λ places. places ≡ repeated edges 0) }
+{
+    let mut places: Listing<usize> = Listing::new(alloc);
+    for _edge in 0..edges {
+        if let Err((_, refused)) = places.push(0) {
+            return Err(refused);
+        }
+    }
+    Ok(places)
+}

@@ -1,10 +1,11 @@
 //! The events that move packets and answers.
 
-ghost use Rattle.std.specs.Prelude.{◌≡◌, ◌≢◌, ◌⊎◌, OnOk, IfNone, IfSome, None, Some, slice_get};
+ghost use Rattle.std.specs.Prelude.{◌≡◌, ◌≢◌, ◌⊎◌, IfNone, IfOk, IfSome, OnOk, None, Some, slice_get};
 ghost use Rattle.std.specs.Option.{option_copied};
 ghost use Rattle.net_model.specs.Flights.{arrive as arrive_step, hear as hear_step, send as send_step, writes};
 ghost use Rattle.net_model.specs.Nodes.{is_author as is_author_kind};
 ghost use Rattle.voe_net.specs.Index.{index_of};
+ghost use Rattle.voe_net.specs.Passed.{EdgePassed};
 ghost use Rattle.voe_net.specs.Plain.{plain};
 
 use crate::index::Index;
@@ -64,29 +65,40 @@ pub fn write(
     add_note(&mut state.nodes, author, note)
 }
 
-/// The first packet of the upper end that is to be sent goes into flight.
-pub fn send(graph: &Graph, index: &Index, state: &mut State, edge: usize) -> Result<(), NoMemory>
-    requires { index.now ≡ index_of graph.now }
-    ensures { OnOk result (state.new ≡ send_step graph.now state.old edge) }
+/// The first packet of the upper end that is to be sent goes into flight. No record before a place that is given is to
+/// be sent; what is given back is such a place for the next time.
+pub fn send(
+    graph: &Graph,
+    index: &Index,
+    state: &mut State,
+    edge: usize,
+    from: usize,
+) -> Result<usize, NoMemory>
+    requires index { index.now ≡ index_of graph.now }
+    requires passed { EdgePassed graph.now state.old edge from }
+    ensures value { OnOk result (state.new ≡ send_step graph.now state.old edge) }
+    ensures passed { IfOk result (EdgePassed graph.now state.new edge) }
 {
     let Some(found) = graph.edges.get(edge) else {
-        return Ok(());
+        return Ok(from);
     };
     let Some(wire) = state.wires.get(edge) else {
-        return Ok(());
+        return Ok(from);
     };
     if !wire.connected || wire.unanswered >= usize::from(graph.window) {
-        return Ok(());
+        return Ok(from);
     }
     let Some(node) = state.nodes.get(usize::from(found.upper)) else {
-        return Ok(());
+        return Ok(from);
     };
     let number = index.number(graph, edge);
-    match first_to_send(node.notes.as_slice(), number, wire.sent.as_slice()) {
-        None => Ok(()),
+    let notes = node.notes.as_slice();
+    match first_to_send(notes, number, wire.sent.as_slice(), from) {
+        None => Ok(notes.len()),
         Some((place, packet)) => {
             let packet = packet.copy()?;
-            put_packet(state.wires.get_mut(edge), place, packet)
+            put_packet(state.wires.get_mut(edge), place, packet)?;
+            Ok(place + 1)
         }
     }
 }
