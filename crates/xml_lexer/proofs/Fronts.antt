@@ -1,8 +1,8 @@
 -- The front of XML characters, by its bytes.
-use Rattle.std.proofs.Common.{◌≡◌, ◌+◌, ◌/◌, ◌%◌, ◌≤◌, ◌<◌, ◌&&◌, ◌||◌, ◌==◌, ◌⊎◌, inl, inr, ℕ, suc, Bool, true, false, cond, List, [], ◌∷◌, ◌++◌, length, take, drop, refl, sym, ◌∙◌, ap, subst, arith, IsUtf8, add-one, drop-cons, get_or}
+use Rattle.std.proofs.Common.{◌≡◌, ◌+◌, ◌-◌, ◌/◌, ◌%◌, ◌≤◌, ◌<◌, ◌&&◌, ◌||◌, ◌==◌, ◌⊎◌, inl, inr, ℕ, zero, suc, Bool, true, false, cond, List, [], ◌∷◌, ◌++◌, length, take, drop, refl, sym, ◌∙◌, ap, subst, arith, IsUtf8, add-one, drop-cons, get_or, drop-drop, length-drop}
 use Rattle.std.proofs.Math.Seq.{take-append-add}
 use Rattle.std.specs.Prelude.{not, nat_lt, nat_le, slice_index}
-use Rattle.std.specs.List.{take_while}
+use Rattle.std.specs.List.{take_while, list_all}
 use Rattle.std.specs.Str.{chars, IsCharBoundary}
 use Rattle.std.proofs.lemmas.Bool.{cases_lt, and_parts}
 use Rattle.std.proofs.lemmas.Bool.Decides.{nat_tests}
@@ -10,7 +10,7 @@ use Rattle.std.proofs.lemmas.Str.{encode_ascii, encodes-chars, scalars-chars, Is
 use Rattle.std.proofs.lemmas.List.Sums.{take_while-cons}
 use lib.Utf8.{scalar, scalars, encode, encodes, scalar_cases}
 use Rattle.xml_lexer.specs.Characters.{Text, is_xml_character, is_blank, xml_front}
-use Rattle.xml_lexer.specs.Scan.{starts_bad, front_len}
+use Rattle.xml_lexer.specs.Scan.{starts_bad, is_clear, front_len}
 
 -- a byte that begins no such character
 good : (b : ℕ) (s : Text) → 32 ≤ b → (b ≡ 239 → ⊥) → starts_bad (b ∷ s) ≡ false
@@ -193,3 +193,31 @@ step t u b e h =
 
 pub front-step : (s : Text) (n : ℕ) → n < length s → starts_bad (drop n s) ≡ false → front_len (drop n s) ≡ suc (front_len (drop (n + 1) s))
 front-step s n lt h = step (drop n s) (drop (n + 1) s) (get_or s n 0) (rw add-one (drop-cons s n 0 lt)) h
+
+-- ---- many bytes at once
+
+pub clear_good : (b : ℕ) (s : Text) → is_clear b ≡ true → starts_bad (b ∷ s) ≡ false
+clear_good b s h = tests (nat_lt b 32 && not (is_blank b)) (b == 239) (slice_index s 0 == 191 && nat_le 190 (slice_index s 1)) h
+  where
+    tests : (x y z : Bool) → not (x || y) ≡ true → (x || (y && z)) ≡ false
+    tests true y z e = cc
+    tests false true z e = cc
+    tests false false z e = refl
+
+clear_run : (s : Text) (n : ℕ) → n ≤ length s → list_all is_clear (take n s) ≡ true → front_len s ≡ n + front_len (drop n s)
+clear_run s zero le h = omega arith
+clear_run [] (suc n) le h = absurd (omega arith)
+clear_run (b ∷ s) (suc n) le h =
+    let parts = and_parts (is_clear b) (list_all is_clear (take n s)) h in
+    let more = clear_run s n (omega arith) parts.1 in
+    let here : front_len (b ∷ s) ≡ suc (front_len s) = rw (clear_good b s parts.0) refl in
+    omega (arith, here, more)
+
+pub clear_chunk : (s : Text) (from end : ℕ) → from ≤ end → end ≤ length s → list_all is_clear (take (end - from) (drop from s)) ≡ true → end + front_len (drop end s) ≡ from + front_len (drop from s)
+clear_chunk s from end low high h =
+    let size : length (drop from s) ≡ length s - from = length-drop from s in
+    let run = clear_run (drop from s) (end - from) (omega (arith, size)) h in
+    let rest : drop (end - from) (drop from s) ≡ drop (from + (end - from)) s = drop-drop (end - from) from s in
+    let at : from + (end - from) ≡ end = omega arith in
+    let behind : front_len (drop (end - from) (drop from s)) ≡ front_len (drop end s) = ap front_len (rest ∙ ap (λ n. drop n s) at) in
+    omega (arith, run, behind)

@@ -174,6 +174,10 @@ abbrev pub starts_bad : Text → Bool
 starts_bad [] = false
 starts_bad (b ∷ s) = (nat_lt b 32 && not (is_blank b)) || (b == 239 && (slice_index s 0 == 191 && nat_le 190 (slice_index s 1)))
 
+-- no such character begins with the byte
+abbrev pub is_clear : ℕ → Bool
+is_clear b = not ((nat_lt b 32 && not (is_blank b)) || b == 239)
+
 -- how many bytes stand before the first such character
 abbrev pub front_len : Text → ℕ
 front_len [] = 0
