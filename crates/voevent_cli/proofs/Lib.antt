@@ -1,3 +1,3 @@
 -- What is wanted, and what holds of a run.
-pub mod Moments_hold
+pub mod SafeRuns
 pub mod Wants

@@ -1,5 +1,5 @@
 -- What is wanted, case by case.
-use Rattle.std.proofs.Common.{◌≡◌, ℕ, ◌+◌, ◌<◌, List, [], ◌++◌, length, cond, refl, ap, sym, ◌∙◌, subst, Err, Ok, Result, Some, None, ◌⊎◌, inl, inr, arith, append-nil, length-append}
+use Rattle.std.proofs.Common.{◌≡◌, ℕ, ◌<◌, List, [], ◌++◌, length, cond, refl, ap, sym, ◌∙◌, subst, Err, Ok, Result, Some, None, inl, inr, arith, append-nil, length-append}
 use Rattle.std.specs.declared.option.Option.{Option}
 use Rattle.std.proofs.lemmas.Bool.{lt-ltb}
 use Rattle.voe_net.specs.Report.{report_of}
@@ -7,13 +7,12 @@ use Rattle.voe_outside.specs.Whole.{Gave}
 use Rattle.voe_scenario.specs.Scenarios.{Refusal, scenario_of, read_from, nothing_yet}
 use Rattle.voe_scenario.specs.Words.{lines_of}
 use Rattle.voe_scenario.specs.declared.scenario.Scenario.{Scenario}
-use Rattle.voevent_cli.specs.Moments.{IsSafeThroughout}
+use Rattle.voevent_cli.specs.Safety.{IsSafeThroughout}
 use Rattle.voevent_cli.specs.declared.command.Command.{Command}
 use Rattle.voevent_cli.specs.declared.command.Command.TheVariants.{Net}
-use Rattle.voevent_cli.specs.declared.outcome.Outcome.{Outcome}
 use Rattle.voevent_cli.specs.declared.outcome.Status.{Status}
 use Rattle.voevent_cli.specs.declared.outcome.Status.TheVariants.{Done, Usage, Refused, ReadFault, WriteFault, NoMemory}
-use Rattle.voevent_cli.specs.Wanted.{code_of, command_of, final_state, limit_of, wanted, wanted_for, wanted_of_net, reported, refusal_line}
+use Rattle.voevent_cli.specs.Wanted.{code_of, command_of, final_state, limit_of, wanted_for, wanted_of_net, reported, refusal_line}
 use Rattle.voevent_cli.specs.Answers.{Moment, HasRead, Answered, Says, DoesAll}
 
 -- the report of an accepted scenario is wanted

@@ -9,7 +9,7 @@ use Rattle.voe_scenario.specs.Scenarios.{scenario_of}
 use Rattle.voevent_cli.specs.declared.command.Command.{Command}
 use Rattle.voevent_cli.specs.declared.outcome.Status.{Status}
 use Rattle.voevent_cli.specs.declared.outcome.Status.TheVariants.{Done, Usage, Refused, ReadFault, WriteFault, NoMemory}
-use Rattle.voevent_cli.specs.Moments.{IsSafeThroughout}
+use Rattle.voevent_cli.specs.Safety.{IsSafeThroughout}
 use Rattle.voevent_cli.specs.Wanted.{code_of, command_of, limit_of, wanted}
 
 -- A source and a sink at one moment: what is left and what is held, where they tell it, and how often each has failed.

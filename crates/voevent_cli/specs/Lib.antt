@@ -1,5 +1,5 @@
 -- What the program answers.
 pub mod Wanted
-pub mod Moments
+pub mod Safety
 pub mod Answers
 pub mod Prepared

@@ -1,5 +1,5 @@
 -- The events of a scenario move packets and answers alone.
-use Rattle.voevent_cli.proofs.Moments_hold.{all_traffic}
+use Rattle.voevent_cli.proofs.SafeRuns.{all_traffic}
 use Rattle.voevent_cli.proofs.net.report_of_run.Goals as goal
 
 pub apply_all-requires : goal.apply_all-requires

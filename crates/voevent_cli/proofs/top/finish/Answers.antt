@@ -2,7 +2,7 @@
 use Rattle.std.proofs.Common.{ap, sym, ◌∙◌}
 use Rattle.std.specs.Io.KnownBytes.{append_known}
 use Rattle.voe_scenario.specs.Scenarios.{scenario_of}
-use Rattle.voevent_cli.proofs.Moments_hold.{safe_throughout}
+use Rattle.voevent_cli.proofs.SafeRuns.{safe_throughout}
 use Rattle.voevent_cli.proofs.Wants.{written}
 use Rattle.voevent_cli.proofs.top.finish.Goals as goal
 

@@ -1,5 +1,5 @@
 -- The network's laws, for the run of a scenario.
-use Rattle.std.proofs.Common.{◌≡◌, ℕ, zero, suc, ◌<◌, List, [], ◌∷◌, Result, Ok, Err, length, arith}
+use Rattle.std.proofs.Common.{ℕ, suc, List, [], ◌∷◌, Result, Ok, Err, arith}
 use Rattle.std.specs.List.{All}
 use Rattle.net_model.specs.declared.scenario.Event.{Event}
 use Rattle.net_model.specs.declared.scenario.Event.TheVariants.{Write, Send, Down, Up, Cut, Connect, Crash, Reopen, Stop, Drain}
@@ -12,7 +12,7 @@ use Rattle.voe_net.specs.Plain.{plain}
 use Rattle.voe_scenario.specs.Scenarios.{Refusal}
 use Rattle.voe_scenario.specs.Sound.{IsNamed}
 use Rattle.voe_scenario.specs.declared.scenario.Scenario.{Scenario}
-use Rattle.voevent_cli.specs.Moments.{IsSafe, IsSafeThroughout}
+use Rattle.voevent_cli.specs.Safety.{IsSafeThroughout}
 
 -- what the network's laws say of a property at every moment of every run
 abbrev pub Always : (Rules → Graph → State → Type 0) → Type 0
