@@ -10,3 +10,5 @@ mod digest;
 mod framing;
 #[cfg(test)]
 mod time;
+#[cfg(test)]
+mod values;
