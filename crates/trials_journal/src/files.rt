@@ -24,9 +24,39 @@ fn loaded(rt: &HostRuntime, path: &str) -> Result<Journal<FileDisk<HostRuntime>>
     }
 }
 
+fn has(journal: &Journal<FileDisk<HostRuntime>>, at: usize, payload: &[u8]) -> bool {
+    match journal.payload(at) {
+        Some(found) => found == payload,
+        None => false,
+    }
+}
+
 fn count(rt: &HostRuntime, path: &str) -> Result<usize, JournalFault> {
     let journal = loaded(rt, path)?;
     Ok(journal.payloads())
+}
+
+#[test]
+fn a_journal_in_a_file_is_loaded_again(rt: HostRuntime) -> Result<(), Fail> {
+    assert_eq!(rt; count(&rt, "journal"), Err(JournalFault::Unmade));
+    let mut journal = made(&rt, "journal")?;
+    journal.append(b"ab")?;
+    journal.append(b"c")?;
+    drop(journal);
+    let mut journal = loaded(&rt, "journal")?;
+    assert_eq!(rt; journal.payloads(), 2);
+    assert!(rt; has(&journal, 0, b"ab"));
+    assert!(rt; has(&journal, 1, b"c"));
+    journal.append(b"d")?;
+    let mut disk = journal.into_disk();
+    let mut bytes = [0; 36];
+    assert_eq!(rt; disk.size(), Ok(36));
+    assert_eq!(rt; disk.read_at(0, &mut bytes), Ok(()));
+    assert_eq!(rt;
+        bytes.as_slice(),
+        b"\x01VOEVENT JRNL 1\n\x01\0\0\0\x02ab\x01\0\0\0\x01c\x01\0\0\0\x01d\0".as_slice()
+    );
+    Ok(())
 }
 
 #[test]
