@@ -4,3 +4,5 @@ pub mod Shape
 pub mod Contents
 pub mod Identifier
 pub mod Validity
+pub mod Canonical
+pub mod Writing

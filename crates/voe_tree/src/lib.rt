@@ -7,6 +7,8 @@
 
 mod contents;
 mod element;
+mod write;
 
 pub use contents::{is_blank, trim_blanks};
 pub use element::{Attribute, Element, Node, Tree};
+pub use write::{WriteFault, write_tree};
