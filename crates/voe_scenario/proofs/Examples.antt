@@ -106,6 +106,25 @@ judged_limits :
 unfolding said_of is_number is_kind is_passed_over is_role judged full
 judged_limits = refl
 
+-- as many lines of an author and links of a broker as this
+parallel : ℕ → Scenario
+parallel count = record {
+  graph = record {
+    nodes = Author ∷ Broker ∷ Subscriber ∷ Author ∷ Broker ∷ [];
+    edges = replicate count (record { upper = 0; lower = 1 }) ++ replicate count (record { upper = 1; lower = 2 });
+    window = 1;
+  };
+  packets = [];
+  events = [];
+}
+
+-- a 64th line and link, and others beside 64 of one node
+judged_parallel :
+    map (λ count. judged (parallel count) (codes "line 0 1" ∷ codes "line 0 4" ∷ codes "line 3 1" ∷ codes "link 1 1" ∷ codes "link 1 2" ∷ codes "link 4 1" ∷ codes "line 0 2" ∷ codes "link 1 5" ∷ [])) (63 ∷ 64 ∷ [])
+    ≡ (None ∷ None ∷ None ∷ None ∷ None ∷ None ∷ Some 2 ∷ Some 2 ∷ []) ∷ (Some 3 ∷ Some 3 ∷ None ∷ Some 3 ∷ Some 3 ∷ None ∷ Some 2 ∷ Some 2 ∷ []) ∷ []
+unfolding said_of is_number is_kind is_passed_over is_role judged parallel
+judged_parallel = refl
+
 -- identifiers of 512 and 513 bytes; lines of 2,049 bytes that are no line, a packet's, and a comment
 judged_lengths :
     judged (small []) ((codes "packet " ++ replicate 512 97 ++ codes " test") ∷ (codes "packet " ++ replicate 513 97 ++ codes " test") ∷ replicate 2048 97 ∷ replicate 2049 97 ∷ (codes "packet " ++ replicate 2037 97 ++ codes " test") ∷ replicate 2049 35 ∷ [])

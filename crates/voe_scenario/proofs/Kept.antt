@@ -1,11 +1,11 @@
 -- A line that breaks no rule keeps a scenario sound.
-use Rattle.std.proofs.Common.{◌≡◌, ℕ, zero, suc, ◌<◌, ◌≤◌, true, false, ◌⊎◌, inl, inr, List, [], ◌∷◌, ◌++◌, Option, Some, None, slice_get, length, nat_lt, nat_le, refl, arith, length-append, subst, cond, codes, Bool}
-use Rattle.std.proofs.lemmas.Bool.{leb-true}
+use Rattle.std.proofs.Common.{◌≡◌, ℕ, ◌-◌, ◌==◌, ◌&&◌, zero, suc, ◌<◌, ◌≤◌, true, false, ◌⊎◌, inl, inr, List, [], ◌∷◌, ◌++◌, Option, Some, None, slice_get, length, nat_lt, nat_le, refl, arith, length-append, subst, cond, codes, Bool}
+use Rattle.std.proofs.lemmas.Bool.{leb-true, cases_Bool}
 use Rattle.std.proofs.lemmas.Bool.Decides.{nat_tests}
-use Rattle.std.specs.List.{All, list_all}
+use Rattle.std.specs.List.{All, list_all, filter}
 use Rattle.std.specs.Str.{bytes_eq}
 use Rattle.voe_scenario.specs.Words.{words_of, is_printable, number_of}
-use Rattle.std.proofs.lemmas.List.Elements.{All-push}
+use Rattle.std.proofs.lemmas.List.Elements.{All-push, filter-append}
 use Rattle.voe_values.specs.declared.kind.NodeKind.{NodeKind}
 use Rattle.voe_values.specs.declared.kind.NodeKind.TheVariants.{Author, Broker, Subscriber}
 use Rattle.net_model.specs.declared.scenario.Edge.{Edge}
@@ -18,8 +18,12 @@ use Rattle.voe_scenario.specs.Refusals.{breaks_grammar, is_named, is_within}
 use Rattle.voe_scenario.specs.Scenarios.{nothing_yet, with_said, with_edge, with_event}
 use Rattle.net_model.specs.declared.scenario.Graph.{Graph}
 use Rattle.net_model.specs.Draining.{IsProper}
+use Rattle.net_model.specs.Nodes.{links_of}
 use Rattle.voe_scenario.specs.Sound.{IsNamed, IsShort, IsSound}
 use Rattle.voe_scenario.proofs.Names.{IsJoined, both, is_kind-true, joins_line-true, joins_link-true}
+
+equal : (m n : ℕ) → (m == n) ≡ true → m ≡ n
+equal m n is = grind (arith, nat_tests)
 
 below : (m n : ℕ) → nat_lt m n ≡ true → m < n
 below m n is = grind (arith, nat_tests)
@@ -73,24 +77,42 @@ proper_node graph kind proper = record {
   window = proper.window;
 }
 
+-- one more at the edge's upper node, and as many as before at any other
+links_kept : (graph : Graph) (edge : Edge) (n : ℕ) → links_of graph n ≤ 64 → links_of graph edge.upper < 64
+    → links_of (record graph { edges = graph.edges ++ edge ∷ [] }) n ≤ 64
+links_kept graph edge n few room =
+    let own : edge.upper ≡ n → links_of graph n < 64 = λ same. rw (← same) room in
+    let one : length (filter (λ other. other.upper == n) (edge ∷ [])) ≤ 64 - links_of graph n =
+    elim (cases_Bool (edge.upper == n)) [
+      | inl is ↦ let free = own (equal edge.upper n is) in rw is (omega arith)
+      | inr isnt ↦ rw isnt (omega arith)
+    ] in
+    rw (filter-append (λ other. other.upper == n) graph.edges (edge ∷ []))
+    (omega (arith, length-append (filter (λ other. other.upper == n) graph.edges) (filter (λ other. other.upper == n) (edge ∷ []))))
+
 edge_kept : (before : Scenario) (edge : Edge) → IsSound before → nat_lt 0 (length before.events) ≡ false
-    → IsJoined before.graph.nodes edge → nat_lt (length before.graph.edges) 256 ≡ true → IsSound (with_edge before edge.upper edge.lower)
-edge_kept before edge sound placed joined within = record {
-  nodes = sound.nodes;
-  edges = pushed before.graph.edges edge 256 within;
-  packets = sound.packets;
-  events = sound.events;
-  window = sound.window;
-  proper = proper_edge before.graph edge sound.proper joined;
-  named = all_of_none (IsNamed (with_edge before edge.upper edge.lower).graph (with_edge before edge.upper edge.lower).packets) before.events (no_event (length before.events) placed);
-  short = sound.short;
-}
+    → IsJoined before.graph.nodes edge → (nat_lt (length before.graph.edges) 256 && nat_lt (links_of before.graph edge.upper) 64) ≡ true
+    → IsSound (with_edge before edge.upper edge.lower)
+edge_kept before edge sound placed joined within =
+    let parts = both (nat_lt (length before.graph.edges) 256) (nat_lt (links_of before.graph edge.upper) 64) within in
+    record {
+      nodes = sound.nodes;
+      edges = pushed before.graph.edges edge 256 parts.0;
+      links = λ n. links_kept before.graph edge n (sound.links n) (below (links_of before.graph edge.upper) 64 parts.1);
+      packets = sound.packets;
+      events = sound.events;
+      window = sound.window;
+      proper = proper_edge before.graph edge sound.proper joined;
+      named = all_of_none (IsNamed (with_edge before edge.upper edge.lower).graph (with_edge before edge.upper edge.lower).packets) before.events (no_event (length before.events) placed);
+      short = sound.short;
+    }
 
 event_kept : (before : Scenario) (event : Event) → IsSound before → IsNamed before.graph before.packets event
     → nat_lt (length before.events) 1000000 ≡ true → IsSound (with_event before event)
 event_kept before event sound named within = record {
   nodes = sound.nodes;
   edges = sound.edges;
+  links = sound.links;
   packets = sound.packets;
   events = pushed before.events event 1000000 within;
   window = sound.window;
@@ -153,6 +175,7 @@ kept before (says_node kind) sound spoken placed named within =
     record {
       nodes = pushed before.graph.nodes kind 64 within;
       edges = sound.edges;
+      links = sound.links;
       packets = sound.packets;
       events = sound.events;
       window = sound.window;
@@ -172,6 +195,7 @@ kept before (says_packet identifier) sound spoken placed named within =
     record {
       nodes = sound.nodes;
       edges = sound.edges;
+      links = sound.links;
       packets = pushed before.packets identifier 1024 parts.1;
       events = sound.events;
       window = sound.window;
@@ -193,6 +217,7 @@ pub nothing_sound : IsSound nothing_yet
 nothing_sound = record {
   nodes = omega arith;
   edges = omega arith;
+  links = λ n. omega arith;
   packets = omega arith;
   events = omega arith;
   window = refl;

@@ -1,5 +1,6 @@
 -- Why a line is refused, by number: each rule for itself, and the least that is broken decides.
 use Rattle.std.specs.Prelude.{ℕ, Bool, true, false, cond, not, List, [], ◌∷◌, Option, Some, None, length, nat_lt, nat_le, ◌&&◌, ◌||◌, ◌==◌}
+use Rattle.net_model.specs.Nodes.{links_of}
 use Rattle.voe_scenario.specs.declared.scenario.Scenario.{Scenario}
 use Rattle.voe_scenario.specs.Grammar.{Said, says_node, says_line, says_link, says_packet, says_write, says_send, says_down, says_up, said_of}
 use Rattle.voe_scenario.specs.Graphs.{is_kind, joins_line, joins_link}
@@ -36,11 +37,12 @@ abbrev pub names_nothing : Scenario → Option Said → Bool
 names_nothing before None = false
 names_nothing before (Some said) = not (is_named before said)
 
--- 64 nodes, 256 edges, 1,024 packets with identifiers of 512 bytes, 1,000,000 events
+-- 64 nodes, 256 edges, 64 lines of an author and 64 links of a broker, 1,024 packets with identifiers of 512 bytes,
+-- 1,000,000 events
 abbrev pub is_within : Scenario → Said → Bool
 is_within before (says_node kind) = nat_lt (length before.graph.nodes) 64
-is_within before (says_line upper lower) = nat_lt (length before.graph.edges) 256
-is_within before (says_link upper lower) = nat_lt (length before.graph.edges) 256
+is_within before (says_line upper lower) = nat_lt (length before.graph.edges) 256 && nat_lt (links_of before.graph upper) 64
+is_within before (says_link upper lower) = nat_lt (length before.graph.edges) 256 && nat_lt (links_of before.graph upper) 64
 is_within before (says_packet identifier) = nat_le (length identifier) 512 && nat_lt (length before.packets) 1024
 is_within before (says_write author packet) = nat_lt (length before.events) 1000000
 is_within before (says_send edge) = nat_lt (length before.events) 1000000

@@ -7,6 +7,7 @@ use Rattle.net_model.specs.declared.scenario.Event.{Event}
 use Rattle.net_model.specs.declared.scenario.Event.TheVariants.{Write, Send, Down, Up}
 use Rattle.net_model.specs.Draining.{IsProper}
 use Rattle.net_model.specs.Laws.{IsA}
+use Rattle.net_model.specs.Nodes.{links_of}
 use Rattle.voe_scenario.specs.declared.scenario.Scenario.{Scenario}
 
 -- an event of the first path, whose numbers name an author, a packet and an edge
@@ -25,6 +26,7 @@ IsShort identifier = (0 < length identifier) × (length identifier ≤ 512)
 pub record IsSound (scenario : Scenario) : Type 0 where
   pub nodes : length scenario.graph.nodes ≤ 64
   pub edges : length scenario.graph.edges ≤ 256
+  pub links : (n : ℕ) → links_of scenario.graph n ≤ 64
   pub packets : length scenario.packets ≤ 1024
   pub events : length scenario.events ≤ 1000000
   pub window : scenario.graph.window ≡ 1

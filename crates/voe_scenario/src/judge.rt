@@ -1,16 +1,19 @@
 //! Why a line is refused.
 
 ghost use Rattle.std.specs.Prelude.{◌≡◌, IfErr, IfOk, None, Some};
+ghost use Rattle.net_model.specs.Nodes.{links_of};
 ghost use Rattle.voe_scenario.specs.Graphs.{is_kind as is_kind_at, joins_line as joins_line_at, joins_link as joins_link_at};
 ghost use Rattle.voe_scenario.specs.Statements.{meaning};
 ghost use Rattle.voe_scenario.specs.Refusals.{broken_rules, is_named as is_named_in, is_set_up as is_set_up_line, is_within as is_within_limits, least_that_holds};
 ghost use Rattle.voe_scenario.specs.Taking.{IsFitting, number_of_fault};
 
 use crate::limits::{
-    EDGES_LIMIT, EVENTS_LIMIT, IDENTIFIER_LIMIT, LINE_LIMIT, NODES_LIMIT, PACKETS_LIMIT,
+    EDGES_LIMIT, EVENTS_LIMIT, IDENTIFIER_LIMIT, LINE_LIMIT, LINKS_LIMIT, NODES_LIMIT,
+    PACKETS_LIMIT,
 };
 use crate::scenario::Scenario;
 use crate::statement::{Statement, read_statement};
+use net_model::Graph;
 use voe_values::{Listing, NodeKind};
 
 /// Which rule a line breaks.
@@ -94,13 +97,29 @@ fn is_named(before: &Scenario, statement: Statement) -> bool
     }
 }
 
+/// How many lines an author has, or how many links a broker.
+fn count_links(graph: &Graph, node: u32) -> usize
+    ensures { result ≡ links_of graph.now node }
+{
+    let mut count = 0;
+    for edge in graph.edges.as_slice() {
+        if u32::from(edge.upper) == node {
+            count += 1;
+        }
+    }
+    count
+}
+
 /// Tells whether what a line adds stays within the limits.
 fn is_within(before: &Scenario, statement: Statement) -> bool
     ensures { result ≡ is_within_limits before.now (meaning statement.entry) }
 {
+    let graph = &before.graph;
     match statement {
-        Statement::Node(_) => before.graph.nodes.len() < NODES_LIMIT,
-        Statement::Line { .. } | Statement::Link { .. } => before.graph.edges.len() < EDGES_LIMIT,
+        Statement::Node(_) => graph.nodes.len() < NODES_LIMIT,
+        Statement::Line { upper, .. } | Statement::Link { upper, .. } => {
+            graph.edges.len() < EDGES_LIMIT && count_links(graph, upper) < LINKS_LIMIT
+        }
         Statement::Packet { identifier } => identifier.len() <= IDENTIFIER_LIMIT
             && before.packets.len() < PACKETS_LIMIT,
         Statement::Write { .. }
