@@ -156,3 +156,42 @@ fn a_turn_on_one_seat_is_seen_by_another_once_they_are_joined(rt: HostRuntime) -
     assert_eq!(rt; state.added.as_slice(), [7, 8].as_slice());
     Ok(())
 }
+
+#[test]
+fn a_turn_without_a_record_is_counted_and_sees_what_others_added(
+    rt: HostRuntime,
+) -> Result<(), Fail> {
+    let Ok((hub, mut first)) = Hub::new(rt.alloc(), Numbers::new(rt.alloc(), 9)) else {
+        panic!(rt; "there is memory")
+    };
+    let mut second = seat_of(&rt, &hub, &mut first);
+    assert_eq!(rt; hub.turn(&rt, &mut second, 7), Some(0));
+    assert_eq!(rt; hub.turn(&rt, &mut first, 0), Some(1));
+    assert_eq!(rt; (first.front(), first.turns()), (1, 1));
+    assert_eq!(rt; hub.turn(&rt, &mut first, 8), Some(1));
+    hub.join(&mut first, second);
+    assert_eq!(rt; (first.front(), first.turns()), (2, 2));
+    let state = hub.close(&rt, first);
+    assert_eq!(rt; state.added.as_slice(), [7, 8].as_slice());
+    Ok(())
+}
+
+#[test]
+fn a_seat_without_numbers_to_give_is_not_split_and_takes_turns_still(
+    rt: HostRuntime,
+) -> Result<(), Fail> {
+    let Ok((hub, mut first)) = Hub::new(rt.alloc(), Numbers::new(rt.alloc(), 9)) else {
+        panic!(rt; "there is memory")
+    };
+    let mut second = seat_of(&rt, &hub, &mut first);
+    let mut third = seat_of(&rt, &hub, &mut second);
+    let mut fourth = seat_of(&rt, &hub, &mut third);
+    let mut last = seat_of(&rt, &hub, &mut fourth);
+    assert!(rt; hub.split(&mut last).is_err());
+    assert_eq!(rt; hub.turn(&rt, &mut last, 7), Some(0));
+    hub.join(&mut first, last);
+    assert_eq!(rt; first.front(), 1);
+    let state = hub.close(&rt, first);
+    assert_eq!(rt; state.added.as_slice(), [7].as_slice());
+    Ok(())
+}
