@@ -40,7 +40,8 @@ impl<S: Turned> Model for Hub<S> {
 }
 
 impl<S: Turned> Hub<S> {
-    /// A hub over the state, and its first seat, which has seen the state's records.
+    /// A hub over the state, and its first seat, which has seen the state's records. Without memory the state is handed
+    /// back.
     pub fn new(alloc: Global, state: S) -> Result<(Hub<S>, Seat), (S, NoMemory)>
         requires { S.sound state }
         ensures ok { IfOk result (λ made. made.1 ≡ first_seat made.0 (S.fixed state) (S.records state)) }
@@ -72,7 +73,8 @@ impl<S: Turned> Hub<S> {
         }
     }
 
-    /// Waits for its turn, and answers what the state answers.
+    /// Waits for its turn, makes it, and answers what the state answers. The seat has then seen the whole journal, at
+    /// whose end the turn's records stand under the seat's number. The hub takes no memory for it.
     pub fn turn<R: Wait>(&self, rt: &R, seat: &mut Seat, ask: S::Ask) -> S::Reply
         requires { seat.old.hub ≡ self.now }
         ensures same { IsSameSeat seat.old seat.new }
@@ -90,7 +92,8 @@ impl<S: Turned> Hub<S> {
         reply
     }
 
-    /// Another seat, with some of this seat's numbers. It fails where the seat has one number left.
+    /// Another seat, with some of this seat's numbers, which has seen as much. `NoMemory` comes exactly where the seat
+    /// has one number left, and changes nothing; no memory is taken.
     pub fn split(&self, seat: &mut Seat) -> Result<Seat, NoMemory>
         requires { seat.old.hub ≡ self.now }
         ensures same { IsSameSeat seat.old seat.new }
@@ -118,7 +121,7 @@ impl<S: Turned> Hub<S> {
         })
     }
 
-    /// The seat has then seen what both had seen.
+    /// The seat has then seen what both had seen. The other's numbers are not given back.
     pub fn join(&self, seat: &mut Seat, other: Seat)
         requires { (seat.old.hub ≡ self.now) × (other.hub ≡ self.now) }
         ensures same { IsSameSeat seat.old seat.new }
@@ -143,7 +146,7 @@ impl<S: Turned> Hub<S> {
         seat.front = seat.front.max(front);
     }
 
-    /// Waits for the last turn, and gives the state.
+    /// Waits for the last turn, and gives the state, whose records begin with those that the seat has seen.
     pub fn close<R: Wait>(self, rt: &R, seat: Seat) -> S
         requires { seat.hub ≡ self }
         ensures fixed { S.fixed result ≡ seat.fixed }
