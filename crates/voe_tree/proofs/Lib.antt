@@ -6,3 +6,14 @@ pub mod WrittenExamples
 pub mod WrittenNumbers
 pub mod WrittenStart
 pub mod WrittenRoot
+pub mod Stacks
+pub mod Lookups
+pub mod ReaderSteps
+pub mod ValueLaws
+pub mod TakeLaws
+pub mod RootLaws
+pub mod XmlTexts
+pub mod XmlTokens
+pub mod SoundLaws
+pub mod DocumentXml
+pub mod ReadLaws

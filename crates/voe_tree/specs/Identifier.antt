@@ -1,20 +1,8 @@
--- Identifiers of events (IVORN): at most 512 bytes, `ivo://`, an authority, and behind a `#` the local part.
-use Rattle.std.specs.Prelude.{ℕ, ◌&&◌, ◌||◌, ◌==◌, Bool, not, nat_eq, nat_le, nat_lt, length, drop, codes}
-use Rattle.std.specs.List.{list_all, list_any, starts_with, prefix_len, after_first}
+-- Identifiers of events, as a test of a text.
+use Rattle.std.specs.Prelude.{Bool, is_none}
 use Rattle.xml_lexer.specs.Characters.{Text}
+use Rattle.voe_values.specs.Identifier.{first_fault}
 
-abbrev pub is_identifier_byte : ℕ → Bool
-is_identifier_byte b = nat_le 33 b && not (b == 127)
-
-abbrev pub is_hash : ℕ → Bool
-is_hash b = b == 35
-
--- the bytes up to the first `/` or `#`
-abbrev pub is_authority_byte : ℕ → Bool
-is_authority_byte b = not (b == 47 || b == 35)
-
+-- no rule of identifiers breaks
 abbrev pub is_identifier : Text → Bool
-is_identifier s =
-    nat_le (length s) 512 && list_all is_identifier_byte s && starts_with nat_eq s (codes "ivo://")
-    && nat_lt 0 (prefix_len is_authority_byte (drop 6 s))
-    && list_any is_hash s && nat_lt 0 (length (after_first is_hash s))
+is_identifier s = is_none (first_fault s)

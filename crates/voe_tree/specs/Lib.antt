@@ -6,3 +6,10 @@ pub mod Identifier
 pub mod Validity
 pub mod Canonical
 pub mod Writing
+pub mod Build
+pub mod Names
+pub mod Rules
+pub mod Document
+pub mod Fault
+pub mod Reader
+pub mod View

@@ -7,8 +7,20 @@
 
 mod contents;
 mod element;
+mod fault;
+pub mod laws;
+mod level;
+mod lookup;
+mod names;
+mod nesting;
+mod read;
+mod start;
+mod take;
+mod values;
 mod write;
 
 pub use contents::{is_blank, trim_blanks};
 pub use element::{Attribute, Element, Node, Tree};
+pub use fault::TreeFault;
+pub use read::read_tree;
 pub use write::{WriteFault, write_tree};
