@@ -3,7 +3,7 @@
 use std::alloc::Global;
 use std::test::Fail;
 use voe_values::Bytes;
-use vtp_framing::{FrameFault, Unframer, frame};
+use vtp_framing::{FrameFault, MOST_PAYLOAD, Unframer, frame};
 
 /// What `next` gives once the bytes were fed in one piece.
 fn first(alloc: Global, bytes: &[u8]) -> Result<Result<Option<Bytes>, FrameFault>, Fail> {
@@ -74,5 +74,43 @@ fn writes_frames_one_behind_another(rt: HostRuntime) -> Result<(), Fail> {
     frame(alloc, b"c", &mut out)?;
     let want: [u8; 11] = [0, 0, 0, 2, b'a', b'b', 0, 0, 0, 1, b'c'];
     assert_eq!(rt; out.as_slice(), want.as_slice());
+    Ok(())
+}
+
+#[test]
+fn carries_the_longest_payload_in_pieces(rt: HostRuntime) -> Result<(), Fail> {
+    let alloc = rt.alloc();
+    let mut payload = Vec::new(alloc);
+    for at in 0..MOST_PAYLOAD {
+        payload.push((at % 251) as u8)?;
+    }
+    if payload.len() < 1 || payload.len() > MOST_PAYLOAD {
+        panic!(rt; "another length")
+    }
+    let mut out = Bytes::new(alloc);
+    frame(alloc, payload.as_slice(), &mut out)?;
+    let mut unframer = Unframer::new(alloc);
+    for piece in out.as_slice().chunks(1000) {
+        let next = unframer.next();
+        assert!(rt; matches!(&next, Ok(None)));
+        unframer.feed(piece)?;
+    }
+    let Ok(Some(got)) = unframer.next() else {
+        panic!(rt; "no payload")
+    };
+    assert!(rt; got.as_slice() == payload.as_slice());
+    unframer.feed(&[0xFF; 4])?;
+    for _ in 0..2 {
+        let next = unframer.next();
+        assert!(rt;
+            matches!(
+                &next,
+                Err(FrameFault::TooLong {
+                    place: 1_048_580,
+                    count: 0xFFFF_FFFF
+                })
+            )
+        );
+    }
     Ok(())
 }
