@@ -1,5 +1,5 @@
 -- What is wanted, case by case.
-use Rattle.std.proofs.Common.{◌≡◌, ℕ, ◌<◌, List, [], ◌++◌, length, cond, refl, ap, sym, ◌∙◌, subst, Err, Ok, Result, Some, None, inl, inr, arith, append-nil, length-append}
+use Rattle.std.proofs.Common.{◌≡◌, ◌==◌, false, ℕ, ◌<◌, List, [], ◌++◌, length, cond, refl, ap, sym, ◌∙◌, subst, Err, Ok, Result, Some, None, inl, inr, arith, append-nil, length-append}
 use Rattle.std.specs.declared.option.Option.{Option}
 use Rattle.std.proofs.lemmas.Bool.{lt-ltb}
 use Rattle.voe_net.specs.Report.{report_of}
@@ -12,7 +12,8 @@ use Rattle.voevent_cli.specs.declared.command.Command.{Command}
 use Rattle.voevent_cli.specs.declared.command.Command.TheVariants.{Net}
 use Rattle.voevent_cli.specs.declared.outcome.Status.{Status}
 use Rattle.voevent_cli.specs.declared.outcome.Status.TheVariants.{Done, Usage, Refused, ReadFault, WriteFault, NoMemory}
-use Rattle.voevent_cli.specs.Wanted.{code_of, command_of, final_state, limit_of, wanted_for, wanted_of_net, reported, refusal_line}
+use Rattle.voevent_cli.specs.declared.outcome.Outcome.{Outcome}
+use Rattle.voevent_cli.specs.Wanted.{code_of, command_of, final_state, limit_of, wanted, wanted_for, wanted_of_net, reported, refusal_line}
 use Rattle.voevent_cli.specs.Answers.{Moment, HasRead, Answered, Says, DoesAll}
 
 -- the report of an accepted scenario is wanted
@@ -66,6 +67,20 @@ wanted_answers : (command : Option Command) (input : List ℕ) → IsAnswer (wan
 unfolding wanted_of_net
 wanted_answers None input = tt
 wanted_answers (Some Net) input = reported_answers (scenario_of input)
+
+answer_code : (status : Status) → IsAnswer status → ((code_of status == 4) ≡ false) × ((code_of status == 5) ≡ false)
+answer_code Done answer = (refl, refl)
+answer_code Usage answer = (refl, refl)
+answer_code Refused answer = (refl, refl)
+answer_code ReadFault answer = absurd answer
+answer_code WriteFault answer = absurd answer
+answer_code NoMemory answer = absurd answer
+
+-- what is wanted is no fault
+pub wanted_code : (words : List (List ℕ)) (input : List ℕ) (outcome : Outcome) → outcome ≡ wanted words input
+    → ((code_of outcome.status == 4) ≡ false) × ((code_of outcome.status == 5) ≡ false)
+wanted_code words input outcome is_so =
+    answer_code outcome.status (subst (λ (o : Outcome). IsAnswer o.status) (sym is_so) (wanted_answers (command_of words) input))
 
 -- the wanted outcome was written whole
 pub written : (words : List (List ℕ)) (taken : List ℕ) (before now : Moment) (status : Status)

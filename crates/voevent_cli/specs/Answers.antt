@@ -1,5 +1,5 @@
 -- What a call of the program did: what it took from its source, what it put on its sink, and how it ended.
-use Rattle.std.specs.Prelude.{◌≡◌, ℕ, ◌+◌, ◌<◌, ◌≤◌, List, [], length, take, Some, None, IsSome, ◌⊎◌}
+use Rattle.std.specs.Prelude.{◌≡◌, ℕ, ◌+◌, ◌<◌, ◌≤◌, List, [], length, take, Some, None, ◌⊎◌}
 use Rattle.std.specs.declared.option.Option.{Option}
 use Rattle.std.specs.Io.KnownBytes.{append_known, IsAtEnd}
 use Rattle.voe_outside.specs.Causes.{Rose}
@@ -33,6 +33,11 @@ abbrev pub HasRead : Option Command → List ℕ → Option (List ℕ) → Type 
 HasRead None taken left = taken ≡ []
 HasRead (Some command) taken left = IsAtEnd left ⊎ (limit_of command < length taken)
 
+-- of a command's input no more was taken than its limit
+abbrev pub IsWithin : Option Command → List ℕ → Type 0
+IsWithin None taken = ⊥
+IsWithin (Some command) taken = length taken ≤ limit_of command
+
 -- the status is the wanted one, and the wanted bytes stand behind what the sink held
 pub record Answered (words : List (List ℕ)) (taken : List ℕ) (before now : Moment) (status : Status) : Type 0 where
   pub read : HasRead (command_of words) taken now.left
@@ -52,7 +57,7 @@ Says words taken before now Done = Answered words taken before now Done × IsSaf
 Says words taken before now Usage = Answered words taken before now Usage
 Says words taken before now Refused = Answered words taken before now Refused
 Says words taken before now ReadFault =
-    IsSome (command_of words) × (now.held ≡ before.held) × Rose before.read_faults now.read_faults
+    IsWithin (command_of words) taken × (now.held ≡ before.held) × Rose before.read_faults now.read_faults
 Says words taken before now WriteFault = CutShort words taken before now × Rose before.write_faults now.write_faults
 Says words taken before now NoMemory = now.held ≡ before.held
 

@@ -2,7 +2,8 @@
 
 ghost use Rattle.std.specs.Prelude.{◌≡◌, ◌<◌, ◌≤◌, ℕ, List, Some, length, IfOk};
 ghost use Rattle.voevent_cli.specs.Wanted.{command_of, limit_of, wanted, wanted_for};
-ghost use Rattle.voevent_cli.specs.Prepared.{Prepares};
+ghost use Rattle.voe_outside.specs.Causes.{count_after};
+ghost use Rattle.voevent_cli.specs.Prepared.{Prepares, is_unread};
 
 use crate::command::Command;
 use crate::line::line_of_refusal;
@@ -58,7 +59,8 @@ pub(crate) fn prepare<S: Source>(
     words: &[Text],
     source: &mut S,
 ) -> Result<Outcome, Hindrance>
-    ensures { Prepares words.now (S.left source.old) (S.left source.new) (S.fault_count source.old) (S.fault_count source.new) result }
+    ensures prepares { Prepares words.now (S.left source.old) (S.left source.new) (S.fault_count source.old) (S.fault_count source.new) result }
+    ensures faults { S.fault_count source.new ≡ count_after (S.fault_count source.old) (is_unread result) }
 {
     let Some(command) = Command::of(words) else {
         return Ok(Outcome {
