@@ -17,3 +17,16 @@ pub mod XmlTokens
 pub mod SoundLaws
 pub mod DocumentXml
 pub mod ReadLaws
+pub mod WrittenAttributes
+pub mod WrittenBindings
+pub mod WrittenCases
+pub mod WrittenDocument
+pub mod WrittenElements
+pub mod WrittenNames
+pub mod WrittenNodes
+pub mod WrittenRepeats
+pub mod WrittenSpaces
+pub mod WrittenTags
+pub mod WrittenTexts
+pub mod WrittenValues
+pub mod WrittenXml

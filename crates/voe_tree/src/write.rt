@@ -1,10 +1,13 @@
 //! The canonical text of a tree.
 
-ghost use Rattle.std.specs.Prelude.{◌≡◌, ◌+◌, ◌++◌, ◌==◌, true, IfErr, MatchResult, OnOk, codes, length};
+ghost use Rattle.std.specs.Prelude.{◌≡◌, ◌+◌, ◌++◌, ◌==◌, true, IfErr, IfOk, IsTrue, MatchResult, OnOk, codes, length};
 ghost use Rattle.std.specs.List.{list_all};
 ghost use Rattle.xml_lexer.specs.Token.{start};
 ghost use Rattle.voe_tree.specs.Canonical.{all_written, canonical, is_narrow, is_writable, tokens_of, written, written_attributes};
+ghost use Rattle.voe_tree.specs.Document.{Spells};
+ghost use Rattle.voe_tree.specs.Shape.{is_well_formed};
 ghost use Rattle.voe_tree.specs.Writing.{Exceeds, IsWide, RefusesWriting};
+ghost use Rattle.voe_tree.specs.declared.element.Element.{Element};
 
 use crate::element::{Element, Node, Tree};
 use std::alloc::Global;
@@ -44,7 +47,8 @@ impl From<NoMemory> for WriteFault {
 /// namespace where it differs from the default in force, the namespaces of its attributes have the prefixes `a0`, `a1`
 /// and so on, and only the characters that would not be read as they are stand as references.
 pub fn write_tree(alloc: Global, tree: &Tree) -> Result<Bytes, WriteFault>
-    ensures { MatchResult result (λ bytes. (bytes ≡ canonical tree.now.root) × (is_writable tree.now.root ≡ true)) (λ fault. RefusesWriting tree.now.root fault) }
+    ensures text { MatchResult result (λ bytes. (bytes ≡ canonical tree.now.root) × (is_writable tree.now.root ≡ true)) (λ fault. RefusesWriting tree.now.root fault) }
+    ensures spells { IfOk result (λ bytes. Spells tree.now.root bytes) }
 {
     let mut writer = Writer::new(alloc);
     tree.root.write(alloc, "", &mut writer)?;
@@ -53,6 +57,11 @@ pub fn write_tree(alloc: Global, tree: &Tree) -> Result<Bytes, WriteFault>
     }
     Ok(writer.into_bytes())
 }
+
+/// The canonical text of a tree that can be written spells the tree, so that it is read as the same tree.
+pub fn written_trees_read_back()
+    ensures { (root : Element) → IsTrue (is_well_formed root) → IsTrue (is_writable root) → Spells root (canonical root) }
+{}
 
 impl Element {
     /// Adds its tokens, where this default namespace is in force.
