@@ -3,7 +3,7 @@
 use std::alloc::Global;
 use std::process::Abort;
 use std::test::Fail;
-use voe_outside::{MemorySink, MemorySource, Source};
+use voe_outside::{MemorySink, MemorySource, ReadFault, Source, read_all};
 use voe_values::{Bytes, NoMemory, Text};
 use voevent_cli::offline;
 
@@ -49,13 +49,17 @@ fn failed(_: NoMemory) -> Fail {
     Fail::from("no memory")
 }
 
-/// Makes the call, and checks its status and all that it wrote.
-fn check(
+fn unread(_: ReadFault) -> Fail {
+    Fail::from("the source was not read")
+}
+
+/// Makes the call, and checks its status and all that it wrote. Gives the source as the call left it.
+fn run(
     rt: &(impl Abort + AllocGlobal),
     call: &Call<'_>,
     status: u8,
     output: &str,
-) -> Result<(), Fail> {
+) -> Result<MemorySource, Fail> {
     let alloc = rt.alloc();
     assert!(rt; call.piece > 0);
     let mut words = Vec::new(alloc);
@@ -75,6 +79,17 @@ fn check(
     let answer = offline(alloc, words.as_slice(), &mut source, &mut sink);
     assert_eq!(rt; answer, status, "status");
     assert!(rt; sink.held() == output.as_bytes());
+    Ok(source)
+}
+
+/// Makes the call, and checks its status and all that it wrote.
+fn check(
+    rt: &(impl Abort + AllocGlobal),
+    call: &Call<'_>,
+    status: u8,
+    output: &str,
+) -> Result<(), Fail> {
+    run(rt, call, status, output)?;
     Ok(())
 }
 
@@ -148,6 +163,7 @@ fn the_answer_is_heard(rt: HostRuntime) -> Result<(), Fail> {
 
 #[test]
 fn other_words_read_nothing(rt: HostRuntime) -> Result<(), Fail> {
+    let alloc = rt.alloc();
     let table: [&[&str]; 5] = [&[], &["net", "extra"], &["Net"], &[""], &["net "]];
     for words in &table {
         let call = Call {
@@ -157,7 +173,12 @@ fn other_words_read_nothing(rt: HostRuntime) -> Result<(), Fail> {
             read_fails: &[0],
             write_fails: &[],
         };
-        check(&rt, &call, 2, "refused usage\n")?;
+        let mut source = run(&rt, &call, 2, "refused usage\n")?;
+        // No read failed. The first one of all does, and all bytes come behind it.
+        assert_eq!(rt; source.faults(), 0);
+        assert!(rt; read_all(alloc, &mut source, 1_000).is_err());
+        let left = read_all(alloc, &mut source, 1_000).map_err(unread)?;
+        assert!(rt; left.as_slice() == ONE_PACKET.as_bytes());
     }
     Ok(())
 }
@@ -212,6 +233,33 @@ fn limits_of_an_identifier_and_a_text(rt: HostRuntime) -> Result<(), Fail> {
     let longer = format!(in alloc; "\npacket {long}x test\n")?;
     let refused = "refused S03 line 2\n";
     check(&rt, &Call::net(longer.as_bytes(), 64), 3, refused)
+}
+
+#[test]
+fn limits_of_the_edges_of_a_node(rt: HostRuntime) -> Result<(), Fail> {
+    let alloc = rt.alloc();
+    // The nodes, an edge, and the report of 64 such edges.
+    let table: [(&str, &str, &str); 2] = [
+        (
+            "author\nbroker\n",
+            "line 0 1\n",
+            "node 0 author up wrote 0 acked 0 refused 0\nnode 1 broker up seen 0 owed 0\n",
+        ),
+        (
+            "broker\nsubscriber\n",
+            "link 0 1\n",
+            "node 0 broker up seen 0 owed 0\nnode 1 subscriber up entered 0\n",
+        ),
+    ];
+    for (nodes, edge, report) in &table {
+        let edges = edge.repeat(alloc, 64)?;
+        let most = format!(in alloc; "{nodes}{edges}")?;
+        check(&rt, &Call::net(most.as_bytes(), 64), 0, report)?;
+        let more = format!(in alloc; "{most}{edge}")?;
+        let refused = "refused S03 line 67\n";
+        check(&rt, &Call::net(more.as_bytes(), 64), 3, refused)?;
+    }
+    Ok(())
 }
 
 #[test]
