@@ -1,0 +1,4 @@
+-- Words of remarks.
+pub mod Remarks
+pub mod Oddities
+pub mod RemarkList
