@@ -11,4 +11,6 @@ mod framing;
 #[cfg(test)]
 mod time;
 #[cfg(test)]
+mod tree;
+#[cfg(test)]
 mod values;
