@@ -1,18 +1,16 @@
 -- An attribute as it is written reads as the attribute.
-use Rattle.std.proofs.Common.{◌≡◌, ℕ, ◌+◌, ◌<◌, ◌^◌, Bool, true, false, List, [], ◌∷◌, ◌++◌, length, refl, sym, ◌∙◌, ap, subst, arith, append_assoc}
-use Rattle.std.specs.Prelude.{◌==◌, ◌||◌, ◌&&◌, ◌⊎◌, not, nat_lt, if◌then◌else◌, Option, Some, None, unwrap_or, decimal, codes, map}
-use Rattle.std.specs.List.{list_all, list_any, position_or_len}
-use Rattle.std.proofs.lemmas.Bool.{both_ways, and_parts, and_from, eqb-true, not-true, lt-ltb}
+use Rattle.std.proofs.Common.{◌≡◌, ℕ, ◌<◌, ◌^◌, Bool, true, false, List, [], ◌∷◌, ◌++◌, length, refl, sym, ◌∙◌, ap, subst, arith, append_assoc}
+use Rattle.std.specs.Prelude.{◌==◌, ◌||◌, ◌&&◌, not, nat_lt, if◌then◌else◌, Option, Some, unwrap_or, decimal, codes}
+use Rattle.std.specs.List.{list_any, position_or_len}
+use Rattle.std.proofs.lemmas.Bool.{both_ways, and_parts, eqb-true, not-true, lt-ltb}
 use Rattle.xml_lexer.specs.Characters.{Text, has_prefix, is_name, is_spelled_name}
-use Rattle.xml_lexer.specs.Token.{Spelled}
 use Rattle.xml_lexer.specs.Spelling.{same}
 use Rattle.voe_tree.specs.Texts.{is_xml_text}
 use Rattle.voe_tree.specs.Shape.{attribute_keeps, is_local_name, is_xmlns}
-use Rattle.voe_tree.specs.Names.{Bindings, is_bound, is_declaration, is_declared_name, local_of, lookup, named_attribute, namespace, prefix_of, read_value, xml_namespace}
+use Rattle.voe_tree.specs.Names.{Bindings, is_bound, is_declaration, is_declared_name, local_of, lookup, named_attribute, namespace, prefix_of}
 use Rattle.voe_tree.specs.declared.element.Attribute.{Attribute}
-use Rattle.voe_tree.specs.Canonical.{is_numbered, written_attribute, written_prefix, written_value, xml_space}
-use Rattle.voe_tree.proofs.WrittenNames.{alone-has, alone-local, alone-prefix, alone-spelled, is-same, same-is, number_prefix, number_prefix-name, with-has, with-local, with-prefix, with-spelled}
-use Rattle.voe_tree.proofs.WrittenValues.{read_value-written}
+use Rattle.voe_tree.specs.Canonical.{is_numbered, written_attribute, written_prefix, xml_space}
+use Rattle.voe_tree.proofs.WrittenNames.{alone-has, alone-local, alone-prefix, alone-spelled, same-is, number_prefix, number_prefix-name, with-has, with-local, with-prefix, with-spelled}
 
 -- the bindings give each of the namespaces by its number
 abbrev pub BindsNumbers : List Text → Bindings → Type 0

@@ -1,13 +1,12 @@
 -- What the declarations of a written tag bind.
-use Rattle.std.proofs.Common.{◌≡◌, ℕ, ◌+◌, ◌<◌, ◌≤◌, ◌^◌, zero, suc, Bool, true, false, List, [], ◌∷◌, ◌++◌, length, refl, sym, ◌∙◌, ap, subst, arith, add-one, one-add, append_assoc}
-use Rattle.std.specs.Prelude.{◌==◌, ◌||◌, ◌&&◌, not, if◌then◌else◌, Option, Some, None, unwrap_or, decimal, codes, map}
-use Rattle.std.specs.List.{list_all, list_any, position_or_len}
+use Rattle.std.proofs.Common.{◌≡◌, ℕ, ◌+◌, ◌<◌, ◌≤◌, ◌^◌, suc, Bool, true, false, List, [], ◌∷◌, ◌++◌, length, refl, sym, ◌∙◌, ap, subst, arith, one-add}
+use Rattle.std.specs.Prelude.{◌||◌, if◌then◌else◌, Some, unwrap_or, decimal, codes}
+use Rattle.std.specs.List.{list_any, position_or_len}
 use Rattle.std.proofs.lemmas.Fmt.{decimal_injective}
-use Rattle.std.proofs.lemmas.Bool.{both_ways, and_parts}
-use Rattle.xml_lexer.specs.Characters.{Text, has_prefix}
+use Rattle.xml_lexer.specs.Characters.{Text}
 use Rattle.xml_lexer.specs.Token.{Spelled}
 use Rattle.xml_lexer.specs.Spelling.{same}
-use Rattle.voe_tree.specs.Names.{Bindings, declare, declared_prefix, is_declaration, local_of, lookup, namespace, prefix_of, read_value}
+use Rattle.voe_tree.specs.Names.{Bindings, declare, declared_prefix, is_declaration, local_of, lookup, read_value}
 use Rattle.voe_tree.specs.Canonical.{default_declaration, numbered_declarations, written_value}
 use Rattle.voe_tree.proofs.WrittenNames.{is-same, same-is, number_prefix, with-has, with-local, with-prefix}
 use Rattle.voe_tree.proofs.WrittenValues.{read_value-written}

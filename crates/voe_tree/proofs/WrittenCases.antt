@@ -1,5 +1,5 @@
 -- A node is an element or a text.
-use Rattle.std.proofs.Common.{◌≡◌, sym, inl, inr}
+use Rattle.std.proofs.Common.{◌≡◌, inl, inr}
 use Rattle.std.specs.Prelude.{◌⊎◌}
 use Rattle.xml_lexer.specs.Characters.{Text}
 use Rattle.voe_tree.specs.declared.element.Element.{Element}

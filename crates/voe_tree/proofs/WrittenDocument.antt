@@ -1,29 +1,27 @@
 -- The canonical text of a tree spells the tree.
-use Rattle.std.proofs.Common.{◌≡◌, ◌⊎◌, ℕ, ◌+◌, ◌<◌, ◌≤◌, ◌^◌, zero, suc, Bool, true, false, List, [], ◌∷◌, ◌++◌, length, map, take, get_or, refl, sym, ◌∙◌, ap, subst, inl, inr, arith, one-add, append_assoc, append-nil}
-use Rattle.std.specs.Prelude.{◌==◌, ◌&&◌, not, max, nat_le, nat_lt, nat_eq, slice_index, Option, Some, None, codes, if◌then◌else◌}
-use Rattle.std.specs.List.{concat, list_all, prefix_len, starts_with, take_while}
+use Rattle.std.proofs.Common.{◌≡◌, ℕ, ◌≤◌, zero, suc, Bool, true, false, List, [], ◌∷◌, ◌++◌, length, map, refl, sym, ◌∙◌, ap, subst, inl, inr, arith, one-add}
+use Rattle.std.specs.Prelude.{◌==◌, ◌&&◌, nat_le, nat_lt, slice_index, Option, Some, codes}
+use Rattle.std.specs.List.{concat, list_all, take_while}
 use Rattle.std.specs.Str.{IsUtf8, is_utf8, chars, encode_utf8_all}
-use Rattle.std.proofs.Math.Seq.{take-length}
-use Rattle.std.proofs.lemmas.Bool.{and_parts, and_from, both_ways, leb-true}
+use Rattle.std.proofs.lemmas.Bool.{and_parts, both_ways, leb-true}
 use Rattle.std.proofs.lemmas.Str.{IsUtf8-from_is_utf8, chars-encodes}
 use Rattle.std.proofs.lemmas.List.Folds.{list_all-append}
 use Rattle.xml_lexer.specs.Characters.{Text, is_name, is_name_byte, is_xml_character, starts_name, xml_front}
-use Rattle.xml_lexer.specs.Token.{Token, start, end, Spelled}
-use Rattle.xml_lexer.specs.Spelling.{IsDeclaration, tag_end}
-use Rattle.xml_lexer.specs.Cut.{Begins, Follow, MayStand}
-use Rattle.xml_lexer.specs.Phases.{BeginsDeclared, Covers, IsFrontOf, IsText, IsTokensOf, KeepsEncoding, mark_len, max_tokens, without_mark}
+use Rattle.xml_lexer.specs.Token.{Token, start, Spelled}
+use Rattle.xml_lexer.specs.Spelling.{tag_end}
+use Rattle.xml_lexer.specs.Cut.{Follow}
+use Rattle.xml_lexer.specs.Phases.{BeginsDeclared, Covers, IsText, IsTokensOf, max_tokens, without_mark}
 use Rattle.voe_tree.specs.Texts.{is_xml_text}
-use Rattle.voe_tree.specs.Shape.{Kept, attribute_keeps, attributes_keep, children_keep, depth, greatest, height, is_local_name, is_well_formed, keeps, node_kept}
+use Rattle.voe_tree.specs.Shape.{Kept, attributes_keep, children_keep, depth, greatest, height, is_local_name, is_well_formed, keeps, node_kept}
 use Rattle.voe_tree.specs.Document.{Spells}
 use Rattle.voe_tree.specs.declared.element.Element.{Element}
 use Rattle.voe_tree.specs.declared.element.Node.{Node}
-use Rattle.voe_tree.specs.declared.element.Node.TheVariants as tree
-use Rattle.voe_tree.specs.Canonical.{all_in, all_written, canonical, canonical_tokens, end_tag, is_narrow, is_writable, max_bytes, text_tokens, tokens_in, tokens_of, written, written_attributes, written_spelled}
+use Rattle.voe_tree.specs.Canonical.{all_written, canonical, canonical_tokens, end_tag, is_narrow, is_writable, max_bytes, tokens_in, tokens_of, written, written_attributes, written_spelled}
 use Rattle.voe_tree.proofs.XmlTexts.{xml-nil, xml-append}
 use Rattle.voe_tree.proofs.WrittenRuns.{all_written-append}
 use Rattle.voe_tree.proofs.WrittenTexts.{Reads}
 use Rattle.voe_tree.proofs.WrittenTree.{tokens_of-layer, tokens_in-element, tokens_in-text}
-use Rattle.voe_tree.proofs.WrittenElements.{TagKeeps, few_spaces}
+use Rattle.voe_tree.proofs.WrittenElements.{few_spaces}
 use Rattle.voe_tree.proofs.WrittenXml.{ascii_xml, start_xml, text_xml, written_xml}
 use Rattle.voe_tree.proofs.WrittenCases.{node_cases}
 use Rattle.voe_tree.proofs.WrittenNodes.{canonical-is_root, canonical-reads, depth_out, first_keeps, height-element, keeps_out, kept-element, kept-text, kids_tokens, tag_keeps}

@@ -1,28 +1,26 @@
 -- An element as it is written reads as the element, where its children do.
 use Rattle.std.proofs.Common.{◌≡◌, ℕ, ◌+◌, ◌<◌, ◌≤◌, ◌^◌, suc, Bool, true, false, cond, List, [], ◌∷◌, ◌++◌, length, map, refl, sym, ◌∙◌, ap, subst, inl, arith, append_assoc, append-nil}
-use Rattle.std.specs.Prelude.{◌==◌, ◌||◌, ◌&&◌, not, nat_le, if◌then◌else◌, Option, Some, None, option_and_then, option_map, codes}
+use Rattle.std.specs.Prelude.{◌==◌, ◌||◌, not, if◌then◌else◌, Option, Some, None, option_and_then, option_map, codes}
 use Rattle.std.specs.List.{concat, list_all}
-use Rattle.std.proofs.lemmas.List.{length-map}
-use Rattle.std.proofs.lemmas.Bool.{and_parts, eqb-true, leb-true, le-leb, lt-leb}
+use Rattle.std.proofs.lemmas.Bool.{eqb-true, lt-leb}
 use Rattle.xml_lexer.specs.Characters.{Text, is_name, is_spelled_name}
 use Rattle.xml_lexer.specs.Token.{Token, start, end, Spelled}
 use Rattle.xml_lexer.specs.Spelling.{AreAttributes, IsAttribute, IsValue, same, tag_end}
-use Rattle.xml_lexer.specs.Cut.{Begins, Follow, MayStand}
 use Rattle.voe_tree.specs.Pairs.{has_pair}
 use Rattle.voe_tree.specs.Shape.{attribute_keeps, same_attribute}
-use Rattle.voe_tree.specs.Build.{Node as Built, Nodes, none, node, element, Levels, outermost, inside, close, put, levels_of, step}
+use Rattle.voe_tree.specs.Build.{Nodes, none, node, element, Levels, outermost, inside, put, levels_of, step}
 use Rattle.voe_tree.specs.Names.{Bindings, declare, element_with, is_bound, local_of, named, named_all, named_attributes, namespace, prefix_of}
 use Rattle.voe_tree.specs.Rules.{Open, Rule, unbalanced, too_deep, repeated_attribute, unbound_prefix, after_token, bindings_in, or_else, names_unbound, refusal_from, repeats, start_rule, unbound_in}
 use Rattle.voe_tree.specs.declared.element.Attribute.{Attribute}
 use Rattle.voe_tree.specs.declared.element.Element.{Element}
 use Rattle.voe_tree.specs.declared.element.Node.{Node}
 use Rattle.voe_tree.specs.declared.element.Node.TheVariants as tree
-use Rattle.voe_tree.specs.Canonical.{all_in, all_written, default_declaration, end_tag, is_narrow, numbered_declarations, numbered_spaces, tokens_in, tokens_of, written, written_attribute, written_attributes, written_spelled, written_value}
+use Rattle.voe_tree.specs.Canonical.{all_in, all_written, default_declaration, end_tag, numbered_declarations, numbered_spaces, tokens_in, tokens_of, written, written_attribute, written_attributes, written_spelled, written_value}
 use Rattle.voe_tree.proofs.WrittenRuns.{all_written-append}
 use Rattle.voe_tree.proofs.WrittenNames.{alone-local, alone-prefix, alone-spelled, is-same, number_prefix, number_prefix-name, with-spelled}
 use Rattle.voe_tree.proofs.WrittenValues.{written_value-is_value}
-use Rattle.voe_tree.proofs.WrittenBindings.{HasDefault, numbered_name}
-use Rattle.voe_tree.proofs.WrittenStart.{attributes_length, numbered_length}
+use Rattle.voe_tree.proofs.WrittenBindings.{HasDefault}
+use Rattle.voe_tree.proofs.WrittenStart.{attributes_length}
 use Rattle.voe_tree.proofs.WrittenTags.{AllRead, inside_tag, inside_tag-default, inside_tag-is, inside_tag-reads, named_attributes-written, unbound_in-written}
 use Rattle.voe_tree.proofs.WrittenRepeats.{repeats-written}
 use Rattle.voe_tree.proofs.WrittenTexts.{AreFine, Reads, Stops}

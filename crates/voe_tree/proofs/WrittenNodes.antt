@@ -1,11 +1,11 @@
 -- A tree as it is written reads as the tree, down from its root.
-use Rattle.std.proofs.Common.{◌≡◌, ℕ, ◌+◌, ◌<◌, ◌≤◌, zero, suc, Bool, true, false, List, [], ◌∷◌, ◌++◌, length, map, refl, sym, ◌∙◌, ap, subst, inl, inr, arith, zero-add, append_assoc, append-nil}
-use Rattle.std.specs.Prelude.{◌==◌, ◌&&◌, ◌⊎◌, not, max, nat_lt, nat_le, Option, Some, None}
+use Rattle.std.proofs.Common.{◌≡◌, ℕ, ◌+◌, ◌≤◌, zero, suc, Bool, true, false, List, [], ◌∷◌, ◌++◌, length, map, refl, sym, ◌∙◌, ap, subst, inl, inr, arith, append_assoc, append-nil}
+use Rattle.std.specs.Prelude.{◌==◌, ◌&&◌, not, nat_lt, nat_le, Some, None}
 use Rattle.std.specs.List.{list_all}
 use Rattle.std.proofs.lemmas.List.Folds.{list_all-append}
 use Rattle.std.proofs.lemmas.Bool.{and_parts, and_from, both_ways, leb-true, ltb-true, not-true}
 use Rattle.xml_lexer.specs.Characters.{Text, is_name}
-use Rattle.xml_lexer.specs.Token.{Token, start}
+use Rattle.xml_lexer.specs.Token.{Token}
 use Rattle.voe_tree.specs.Texts.{is_xml_text}
 use Rattle.voe_tree.specs.Pairs.{has_pair}
 use Rattle.voe_tree.specs.Shape.{Kept, are_apart, attribute_keeps, attributes_keep, children_keep, depth, element_depth, element_keeps, greatest, height, is_local_name, keeps, node_depth, node_keeps, node_kept, same_attribute}
@@ -21,7 +21,7 @@ use Rattle.voe_tree.specs.declared.element.Node.TheVariants as tree
 use Rattle.voe_tree.specs.Canonical.{all_in, all_written, canonical, canonical_tokens, end_tag, is_narrow, text_tokens, tokens_in, tokens_of, written_attributes}
 use Rattle.voe_tree.proofs.WrittenRuns.{all_written-append}
 use Rattle.voe_tree.proofs.WrittenBindings.{HasDefault}
-use Rattle.voe_tree.proofs.WrittenTexts.{AreFine, Reads, Stops, fine_text, levels_of-text, reads_text}
+use Rattle.voe_tree.proofs.WrittenTexts.{Reads, Stops, fine_text, levels_of-text, reads_text}
 use Rattle.voe_tree.proofs.WrittenTree.{tokens_of-layer, tokens_in-element, tokens_in-text}
 use Rattle.voe_tree.proofs.WrittenElements.{Goes, MayOpen, NodesRead, TagKeeps, element_fine, element_levels, element_named, element_reads}
 use Rattle.voe_tree.proofs.WrittenCases.{node_cases}

@@ -1,6 +1,6 @@
 -- Which namespaces have a number yet.
 use Rattle.std.proofs.Common.{◌≡◌, ℕ, suc, Bool, true, false, List, [], ◌∷◌, length, refl, sym, ◌∙◌, ap, inl, inr, arith, one-add}
-use Rattle.std.specs.Prelude.{◌==◌, ◌||◌, ◌&&◌, not, ◌⊎◌}
+use Rattle.std.specs.Prelude.{◌==◌, ◌&&◌, not}
 use Rattle.std.specs.Borrow.{Bor}
 use Rattle.std.proofs.lemmas.List.{length-map}
 use Rattle.voe_tree.specs.Writing.{texts}

@@ -1,13 +1,12 @@
 -- What the writer answers of a root.
-use Rattle.std.proofs.Common.{◌≡◌, ℕ, ◌+◌, ◌<◌, ◌≤◌, Bool, true, false, List, [], ◌++◌, length, refl, sym, ◌∙◌, ap, subst, inl, inr, arith, zero-add}
+use Rattle.std.proofs.Common.{◌≡◌, ℕ, ◌+◌, Bool, true, false, [], ◌++◌, length, refl, sym, ◌∙◌, ap, subst, inl, inr, arith, zero-add}
 use Rattle.std.specs.Prelude.{◌||◌, ◌&&◌, nat_le, nat_lt, Result, Ok, Err, MatchResult}
 use Rattle.std.specs.Result.{IsErrAnd}
 use Rattle.std.specs.List.{list_all}
 use Rattle.std.proofs.lemmas.Bool.{and_from, and_left, and_right, or_cases, ltb-true, ltb-false, le-leb, lt-leb}
 use Rattle.xml_lexer.specs.Characters.{Text}
 use Rattle.xml_lexer.specs.Phases.{max_tokens}
-use Rattle.xml_lexer.specs.Token.{Token}
-use Rattle.voe_tree.specs.Canonical.{all_written, canonical, canonical_tokens, is_narrow, is_writable, max_bytes, tokens_of}
+use Rattle.voe_tree.specs.Canonical.{canonical, canonical_tokens, is_narrow, is_writable, max_bytes}
 use Rattle.voe_tree.specs.Writing.{Exceeds, RefusesWriting, fits}
 use Rattle.voe_tree.specs.declared.element.Element.{Element}
 use Rattle.voe_tree.specs.declared.write.WriteFault.{WriteFault}

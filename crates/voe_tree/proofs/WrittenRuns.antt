@@ -1,7 +1,6 @@
 -- What texts and values are written as, by the bytes that are escaped.
-use Rattle.std.proofs.Common.{◌≡◌, ℕ, suc, ◌+◌, ◌<◌, Bool, true, false, List, [], ◌∷◌, ◌++◌, length, take, drop, refl, sym, ◌∙◌, ap, arith, one-add, add-one, append_assoc, append-nil, length-append}
-use Rattle.std.specs.Prelude.{not, slice_index, map}
-use Rattle.std.specs.List.{concat, prefix_len, list_all}
+use Rattle.std.proofs.Common.{◌≡◌, ℕ, suc, ◌+◌, Bool, true, false, List, [], ◌∷◌, ◌++◌, length, take, drop, refl, sym, ◌∙◌, ap, arith, one-add, append_assoc, length-append}
+use Rattle.std.specs.List.{prefix_len, list_all}
 use Rattle.xml_lexer.specs.Characters.{Text}
 use Rattle.xml_lexer.specs.Token.{Token, reference, text}
 use Rattle.voe_tree.specs.Canonical.{all_written, is_escaped, is_escaped_in_value, is_narrow, put_byte, reference_to, text_tokens, written, written_value}

@@ -1,8 +1,7 @@
 -- The namespaces that take numbers.
-use Rattle.std.proofs.Common.{◌≡◌, ℕ, ◌+◌, ◌≤◌, suc, Bool, true, false, List, [], ◌∷◌, ◌++◌, length, refl, sym, ◌∙◌, ap, subst, arith, length-append, add-one, one-add}
+use Rattle.std.proofs.Common.{◌≡◌, Bool, true, false, List, [], ◌∷◌, ◌++◌, refl, sym, ◌∙◌, ap}
 use Rattle.std.specs.Prelude.{◌||◌, ◌&&◌, not, if◌then◌else◌}
-use Rattle.std.specs.List.{list_all, list_any, position_or_len}
-use Rattle.std.proofs.lemmas.Bool.{and_parts, and_from, both_ways, or_cases}
+use Rattle.std.specs.List.{list_any}
 use Rattle.xml_lexer.specs.Characters.{Text}
 use Rattle.xml_lexer.specs.Spelling.{same}
 use Rattle.voe_tree.specs.declared.element.Attribute.{Attribute}

@@ -1,19 +1,18 @@
 -- The start tag of an element as it is written breaks no rule, and reads as its names.
-use Rattle.std.proofs.Common.{◌≡◌, ℕ, ◌+◌, ◌<◌, ◌≤◌, ◌^◌, zero, suc, Bool, true, false, List, [], ◌∷◌, ◌++◌, length, map, refl, sym, ◌∙◌, ap, subst, arith, zero-add, length-append, append_assoc, append-nil}
-use Rattle.std.specs.Prelude.{◌==◌, ◌||◌, ◌&&◌, not, nat_lt, nat_le, if◌then◌else◌, filter, Option, Some, None, unwrap_or, decimal, codes}
-use Rattle.std.specs.List.{list_all, list_any, position_or_len, concat}
-use Rattle.std.proofs.lemmas.Bool.{both_ways, and_parts, and_from, lt-leb}
+use Rattle.std.proofs.Common.{◌≡◌, ℕ, ◌+◌, ◌<◌, ◌^◌, Bool, true, false, List, [], ◌∷◌, ◌++◌, length, map, refl, sym, ◌∙◌, ap, arith, zero-add}
+use Rattle.std.specs.Prelude.{◌||◌, not, if◌then◌else◌, Option, unwrap_or, codes}
+use Rattle.std.specs.List.{list_all, list_any, position_or_len}
+use Rattle.std.proofs.lemmas.Bool.{and_parts}
 use Rattle.std.proofs.lemmas.List.Sums.{prefix_len-le-length}
-use Rattle.xml_lexer.specs.Characters.{Text, has_prefix, is_name}
+use Rattle.xml_lexer.specs.Characters.{Text}
 use Rattle.xml_lexer.specs.Token.{Spelled}
 use Rattle.xml_lexer.specs.Spelling.{same}
-use Rattle.voe_tree.specs.Pairs.{has_pair}
-use Rattle.voe_tree.specs.Shape.{attribute_keeps, same_attribute}
-use Rattle.voe_tree.specs.Names.{Bindings, declare, declared_prefix, is_bound, is_declaration, local_of, lookup, named_attribute, named_attributes, namespace, prefix_of, read_value, undeclaring}
-use Rattle.voe_tree.specs.Rules.{repeats, same_named, same_spelled, unbound_in}
+use Rattle.voe_tree.specs.Shape.{attribute_keeps}
+use Rattle.voe_tree.specs.Names.{Bindings, declare, declared_prefix, is_bound, is_declaration, local_of, lookup, named_attribute, named_attributes, prefix_of, read_value, undeclaring}
+use Rattle.voe_tree.specs.Rules.{unbound_in}
 use Rattle.voe_tree.specs.declared.element.Attribute.{Attribute}
-use Rattle.voe_tree.specs.Canonical.{default_declaration, is_numbered, numbered_declarations, numbered_spaces, written_attribute, written_attributes, written_value}
-use Rattle.voe_tree.proofs.WrittenNames.{alone-prefix, is-same, same-is, number_prefix}
+use Rattle.voe_tree.specs.Canonical.{default_declaration, numbered_declarations, numbered_spaces, written_attribute, written_attributes, written_value}
+use Rattle.voe_tree.proofs.WrittenNames.{number_prefix}
 use Rattle.voe_tree.proofs.WrittenValues.{read_value-written}
 use Rattle.voe_tree.proofs.WrittenBindings.{HasDefault, declare-append, default-declared, lookup-numbered, lookup-unnumbered, numbered_name-declared}
 use Rattle.voe_tree.proofs.WrittenAttributes.{BindsNumbers, ReadsAs, reads_as}

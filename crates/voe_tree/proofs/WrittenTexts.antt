@@ -1,5 +1,5 @@
 -- A written text reads as the text.
-use Rattle.std.proofs.Common.{◌≡◌, ℕ, ◌+◌, ◌<◌, ◌≤◌, zero, suc, Bool, true, false, List, [], ◌∷◌, ◌++◌, length, drop, refl, sym, ◌∙◌, ap, subst, inl, inr, lit<, arith, append_assoc, append-nil}
+use Rattle.std.proofs.Common.{◌≡◌, ℕ, ◌+◌, Bool, true, false, List, [], ◌∷◌, ◌++◌, refl, sym, ◌∙◌, ap, subst, lit<, arith, append_assoc}
 use Rattle.std.specs.Prelude.{◌==◌, ◌||◌, ◌&&◌, not, Option, Some, None, option_and_then, codes}
 use Rattle.std.specs.List.{list_all}
 use Rattle.std.specs.Char.{encode_utf8}
@@ -7,11 +7,11 @@ use Rattle.std.proofs.lemmas.Str.{encode_ascii}
 use Rattle.xml_lexer.specs.Characters.{Text}
 use Rattle.xml_lexer.specs.Token.{Token, reference, text}
 use Rattle.xml_lexer.specs.Spelling.{is_text_byte, IsReference}
-use Rattle.xml_lexer.specs.Cut.{Begins, Follow, MayStand}
-use Rattle.voe_tree.specs.Build.{Node, Nodes, none, node, characters, element, Levels, outermost, inside, put, put_text, levels_of, step, with_line_feeds}
+use Rattle.xml_lexer.specs.Cut.{Follow, MayStand}
+use Rattle.voe_tree.specs.Build.{Nodes, none, node, characters, element, Levels, outermost, inside, put, put_text, levels_of, step, with_line_feeds}
 use Rattle.voe_tree.specs.Names.{Bindings}
 use Rattle.voe_tree.specs.Rules.{Open, refusal_from}
-use Rattle.voe_tree.specs.Canonical.{all_written, is_escaped, put_byte, reference_to, text_tokens, written}
+use Rattle.voe_tree.specs.Canonical.{all_written, is_escaped, put_byte, reference_to, text_tokens}
 use Rattle.voe_tree.proofs.WrittenRuns.{text_tokens-escaped, text_tokens-plain}
 use Rattle.voe_tree.proofs.WrittenValues.{text_cases}
 

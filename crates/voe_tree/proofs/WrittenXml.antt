@@ -1,6 +1,6 @@
 -- A tree's canonical text is made of XML characters.
-use Rattle.std.proofs.Common.{◌≡◌, ◌⊎◌, ℕ, ◌+◌, ◌<◌, ◌≤◌, ◌^◌, zero, suc, Bool, true, false, List, [], ◌∷◌, ◌++◌, length, map, take, drop, get_or, refl, sym, ◌∙◌, ap, subst, inl, inr, lit<, arith, one-add, add-one, append_assoc, append-nil, length-append, length-drop}
-use Rattle.std.specs.Prelude.{◌==◌, ◌&&◌, ◌||◌, not, nat_lt, nat_le, if◌then◌else◌, decimal, codes}
+use Rattle.std.proofs.Common.{◌≡◌, ◌⊎◌, ℕ, ◌+◌, ◌<◌, ◌≤◌, ◌^◌, zero, suc, Bool, true, false, List, [], ◌∷◌, ◌++◌, length, map, take, drop, get_or, refl, sym, ◌∙◌, ap, inl, inr, lit<, arith, one-add, add-one, append-nil, length-drop}
+use Rattle.std.specs.Prelude.{◌==◌, ◌&&◌, not, nat_lt, nat_le, if◌then◌else◌, decimal, codes}
 use Rattle.std.specs.List.{concat, list_all, list_any, position_or_len, prefix_len}
 use Rattle.std.specs.Str.Parse.{AllDigits}
 use Rattle.std.proofs.Math.Nat.{eq-or-lt_of_le}
@@ -13,12 +13,12 @@ use Rattle.std.proofs.lemmas.Fmt.{decimal_is_IsNumeral}
 use Rattle.std.proofs.lemmas.Str.{encode_ascii}
 use Rattle.std.proofs.lemmas.Str.Parse.{digit_from_value}
 use Rattle.xml_lexer.specs.Characters.{Text, is_name, is_xml_character}
-use Rattle.xml_lexer.specs.Token.{Token, Spelled, start}
+use Rattle.xml_lexer.specs.Token.{Spelled, start}
 use Rattle.xml_lexer.specs.Spelling.{same, tag_end}
 use Rattle.voe_tree.specs.Texts.{is_xml_text}
 use Rattle.voe_tree.specs.Shape.{attribute_keeps, is_local_name, is_xmlns}
 use Rattle.voe_tree.specs.declared.element.Attribute.{Attribute}
-use Rattle.voe_tree.specs.Canonical.{add_space, add_spaces, all_written, default_declaration, is_escaped, is_escaped_in_value, is_numbered, numbered_declarations, numbered_spaces, put_byte, reference_to, text_tokens, written, written_attribute, written_attributes, written_prefix, written_spelled, written_value, xml_space}
+use Rattle.voe_tree.specs.Canonical.{add_space, add_spaces, all_written, default_declaration, is_escaped, is_escaped_in_value, is_numbered, numbered_declarations, numbered_spaces, reference_to, text_tokens, written, written_attribute, written_attributes, written_prefix, written_spelled, written_value, xml_space}
 use Rattle.voe_tree.proofs.XmlTexts.{xml-nil, xml-append, xml-around, xml-encode}
 use Rattle.voe_tree.proofs.WrittenRuns.{text_tokens-escaped, text_tokens-plain}
 use Rattle.voe_tree.proofs.WrittenValues.{text_cases, value_cases}

@@ -2,7 +2,7 @@
 use Rattle.std.specs.Prelude.{ℕ, ◌+◌, ◌&&◌, ◌||◌, ◌==◌, Bool, true, false, not, nat_le, if◌then◌else◌, List, [], ◌∷◌, ◌++◌, length, map, codes, decimal}
 use Rattle.std.specs.List.{concat, list_all, list_any, position_or_len}
 use Rattle.xml_lexer.specs.Characters.{Text}
-use Rattle.xml_lexer.specs.Token.{Token, declaration, instruction, comment, cdata, start, end, reference, text, Spelled}
+use Rattle.xml_lexer.specs.Token.{Token, start, end, reference, text, Spelled}
 use Rattle.xml_lexer.specs.Spelling.{same, tag_end, max_attributes}
 use Rattle.xml_lexer.specs.Phases.{max_tokens}
 use Rattle.voe_tree.specs.declared.element.Attribute.{Attribute}

@@ -1,4 +1,4 @@
-use Rattle.std.proofs.Common.{rules, ◌≡◌, true, false}
+use Rattle.std.proofs.Common.{rules}
 use Rattle.voe_tree.proofs.WrittenDocument.{written_spells}
 use Rattle.voe_tree.proofs.WrittenRoot.{root_fault, full_refuses, ok_writes}
 use Rattle.voe_tree.proofs.write.write_tree.Goals as goal

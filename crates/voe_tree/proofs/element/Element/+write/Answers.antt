@@ -1,8 +1,6 @@
-use Rattle.std.proofs.Common.{◌≡◌, ◌∙◌, ℕ, List, length, map, sym, ap, arith, refl, rules, true, false}
+use Rattle.std.proofs.Common.{◌≡◌, ◌∙◌, length, sym, ap, arith, rules, false}
 use Rattle.std.specs.Prelude.{◌==◌}
-use Rattle.std.specs.List.{list_all}
-use Rattle.xml_lexer.specs.Token.{Token}
-use Rattle.voe_tree.specs.Canonical.{all_in, is_narrow, text_tokens, tokens_in, tokens_of}
+use Rattle.voe_tree.specs.Canonical.{text_tokens, tokens_in, tokens_of}
 use Rattle.voe_tree.specs.declared.write.writer.Writer.{Writer}
 use Rattle.voe_tree.proofs.WrittenRuns.{text_tokens-narrow}
 use Rattle.voe_tree.proofs.WrittenTree.{element_bytes, element_counts, element_narrow, node_bytes, node_counts, node_narrow, node_exceeds, tokens_in-element, tokens_in-text}

@@ -1,4 +1,4 @@
-use Rattle.std.proofs.Common.{◌≡◌, ◌∙◌, ap, length}
+use Rattle.std.proofs.Common.{◌∙◌, ap, length}
 use Rattle.std.specs.Prelude.{◌==◌}
 use Rattle.xml_lexer.specs.Spelling.{tag_end}
 use Rattle.voe_tree.proofs.WrittenStart.{tag_put}

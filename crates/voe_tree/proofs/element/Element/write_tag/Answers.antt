@@ -1,4 +1,4 @@
-use Rattle.std.proofs.Common.{◌≡◌, refl, arith, sym}
+use Rattle.std.proofs.Common.{refl, arith}
 use Rattle.voe_tree.proofs.WrittenStart.{too_many, few_enough}
 use Rattle.voe_tree.proofs.element.Element.write_tag.Goals as goal
 
