@@ -14,3 +14,5 @@ mod time;
 mod tree;
 #[cfg(test)]
 mod values;
+#[cfg(test)]
+mod written;
