@@ -1,2 +1,3 @@
 pub mod AnyOf
 pub mod Least
+pub mod Once

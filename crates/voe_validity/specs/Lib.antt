@@ -2,3 +2,4 @@
 pub mod Remarks
 pub mod Oddities
 pub mod RemarkList
+pub mod Judging
