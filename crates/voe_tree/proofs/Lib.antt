@@ -30,3 +30,5 @@ pub mod WrittenTags
 pub mod WrittenTexts
 pub mod WrittenValues
 pub mod WrittenXml
+pub mod PrefixedTree
+pub mod PrefixedDocument

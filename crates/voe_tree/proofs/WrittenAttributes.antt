@@ -7,9 +7,9 @@ use Rattle.xml_lexer.specs.Characters.{Text, has_prefix, is_name, is_spelled_nam
 use Rattle.xml_lexer.specs.Spelling.{same}
 use Rattle.voe_tree.specs.Texts.{is_xml_text}
 use Rattle.voe_tree.specs.Shape.{attribute_keeps, is_local_name, is_xmlns}
-use Rattle.voe_tree.specs.Names.{Bindings, is_bound, is_declaration, is_declared_name, local_of, lookup, named_attribute, namespace, prefix_of}
+use Rattle.voe_tree.specs.Names.{Bindings, is_bound, is_declaration, is_declared_name, local_of, lookup, named_attribute, namespace, prefix_of, xml_namespace}
 use Rattle.voe_tree.specs.declared.element.Attribute.{Attribute}
-use Rattle.voe_tree.specs.Canonical.{is_numbered, written_attribute, written_prefix, xml_space}
+use Rattle.voe_tree.specs.Canonical.{is_numbered, written_attribute, written_prefix}
 use Rattle.voe_tree.proofs.WrittenNames.{alone-has, alone-local, alone-prefix, alone-spelled, same-is, number_prefix, number_prefix-name, with-has, with-local, with-prefix, with-spelled}
 
 -- the bindings give each of the namespaces by its number
@@ -55,7 +55,7 @@ or_right : (a b : Bool) → b ≡ true → (a || b) ≡ true
 or_right true b h = refl
 or_right false b h = h
 
-bound_to : (bindings : Bindings) (prefix space : Text) → namespace bindings prefix ≡ space → (length space == 0) ≡ false → is_bound bindings prefix ≡ true
+pub bound_to : (bindings : Bindings) (prefix space : Text) → namespace bindings prefix ≡ space → (length space == 0) ≡ false → is_bound bindings prefix ≡ true
 bound_to bindings prefix space has some =
     or_right (length prefix == 0) (nat_lt 0 (length (namespace bindings prefix)))
     (ap (λ s. nat_lt 0 (length s)) has ∙ lt-ltb 0 (length space) (some_length space some))
@@ -82,34 +82,34 @@ in_none : (bindings : Bindings) (spaces : List Text) (a : Attribute) → is_name
     NameReads bindings a.space a.local (written_name spaces a)
 in_none bindings spaces a named other e =
     alone_reads bindings a.space a.local (written_name spaces a)
-    (ap (λ b. (if b then [] else (if same a.space xml_space then codes "xml:" else codes "a" ++ decimal (position_or_len (same a.space) spaces) ++ codes ":")) ++ a.local) e)
+    (ap (λ b. (if b then [] else (if same a.space xml_namespace then codes "xml:" else codes "a" ++ decimal (position_or_len (same a.space) spaces) ++ codes ":")) ++ a.local) e)
     named (ap (λ b. b && same a.local (codes "xmlns")) (sym e) ∙ other) (no_length a.space e)
 
-in_xml : (bindings : Bindings) (spaces : List Text) (a : Attribute) → is_name a.local ≡ true → (length a.space == 0) ≡ false → same a.space xml_space ≡ true →
+in_xml : (bindings : Bindings) (spaces : List Text) (a : Attribute) → is_name a.local ≡ true → (length a.space == 0) ≡ false → same a.space xml_namespace ≡ true →
     NameReads bindings a.space a.local (written_name spaces a)
 in_xml bindings spaces a named some e =
     with_reads bindings a.space a.local (codes "xml") (written_name spaces a)
-    (ap (λ b. (if b then [] else (if same a.space xml_space then codes "xml:" else codes "a" ++ decimal (position_or_len (same a.space) spaces) ++ codes ":")) ++ a.local) some
+    (ap (λ b. (if b then [] else (if same a.space xml_namespace then codes "xml:" else codes "a" ++ decimal (position_or_len (same a.space) spaces) ++ codes ":")) ++ a.local) some
     ∙ ap (λ b. (if b then codes "xml:" else codes "a" ++ decimal (position_or_len (same a.space) spaces) ++ codes ":") ++ a.local) e)
-    refl named refl refl (sym (same-is a.space xml_space e)) some
+    refl named refl refl (sym (same-is a.space xml_namespace e)) some
 
-in_numbered : (bindings : Bindings) (spaces : List Text) (a : Attribute) → is_name a.local ≡ true → (length a.space == 0) ≡ false → same a.space xml_space ≡ false →
+in_numbered : (bindings : Bindings) (spaces : List Text) (a : Attribute) → is_name a.local ≡ true → (length a.space == 0) ≡ false → same a.space xml_namespace ≡ false →
     lookup (number_prefix (position_or_len (same a.space) spaces)) bindings ≡ Some a.space → position_or_len (same a.space) spaces < 2 ^ 64 →
     NameReads bindings a.space a.local (written_name spaces a)
 in_numbered bindings spaces a named some other binds small =
     with_reads bindings a.space a.local (number_prefix (position_or_len (same a.space) spaces)) (written_name spaces a)
-    (ap (λ b. (if b then [] else (if same a.space xml_space then codes "xml:" else codes "a" ++ decimal (position_or_len (same a.space) spaces) ++ codes ":")) ++ a.local) some
+    (ap (λ b. (if b then [] else (if same a.space xml_namespace then codes "xml:" else codes "a" ++ decimal (position_or_len (same a.space) spaces) ++ codes ":")) ++ a.local) some
     ∙ ap (λ b. (if b then codes "xml:" else codes "a" ++ decimal (position_or_len (same a.space) spaces) ++ codes ":") ++ a.local) other
     ∙ append_assoc (number_prefix (position_or_len (same a.space) spaces)) (58 ∷ []) a.local)
     (number_prefix-name (position_or_len (same a.space) spaces) small) named refl refl (ap (λ (o : Option Text). unwrap_or o []) binds) some
 
 name_reads : (bindings : Bindings) (spaces : List Text) (a : Attribute) → is_name a.local ≡ true → is_xmlns a ≡ false → BindsNumbers spaces bindings →
     (is_numbered a.space ≡ true → list_any (same a.space) spaces ≡ true) → position_or_len (same a.space) spaces < 2 ^ 64 →
-    (t u : Bool) → (length a.space == 0) ≡ t → same a.space xml_space ≡ u → NameReads bindings a.space a.local (written_name spaces a)
+    (t u : Bool) → (length a.space == 0) ≡ t → same a.space xml_namespace ≡ u → NameReads bindings a.space a.local (written_name spaces a)
 name_reads bindings spaces a named other binds has small true u e f = in_none bindings spaces a named other e
 name_reads bindings spaces a named other binds has small false true e f = in_xml bindings spaces a named e f
 name_reads bindings spaces a named other binds has small false false e f =
-    in_numbered bindings spaces a named e f (binds a.space (has (ap (λ b. not (b || same a.space xml_space)) e ∙ ap not f))) small
+    in_numbered bindings spaces a named e f (binds a.space (has (ap (λ b. not (b || same a.space xml_namespace)) e ∙ ap not f))) small
 
 pub reads_as : (bindings : Bindings) (spaces : List Text) (a : Attribute) → attribute_keeps a ≡ true → BindsNumbers spaces bindings →
     (is_numbered a.space ≡ true → list_any (same a.space) spaces ≡ true) → position_or_len (same a.space) spaces < 2 ^ 64 → ReadsAs bindings spaces a
@@ -120,5 +120,5 @@ reads_as bindings spaces a keeps binds has small =
     let named : is_name a.local ≡ true = (and_parts (is_name a.local) (is_xml_text a.local) names.1).0 in
     let other : is_xmlns a ≡ false = not-true (is_xmlns a) parts.1 in
     let facts : NameReads bindings a.space a.local (written_name spaces a) =
-    name_reads bindings spaces a named other binds has small (length a.space == 0) (same a.space xml_space) refl refl in
+    name_reads bindings spaces a named other binds has small (length a.space == 0) (same a.space xml_namespace) refl refl in
     record { spelled = facts.0; undeclared = facts.1; space = facts.2; local = facts.3; bound = facts.4 }

@@ -29,7 +29,7 @@ use Rattle.voe_tree.proofs.WrittenNodes.{canonical-is_root, canonical-reads, dep
 -- ---- characters
 
 -- the elements of this depth are written in XML characters
-abbrev XmlWithin : ℕ → Type 0
+abbrev pub XmlWithin : ℕ → Type 0
 XmlWithin deep = (e : Element) → depth e ≤ deep → keeps e ≡ true → (default : Text) → list_all is_narrow (tokens_of e default) ≡ true → is_xml_text (all_written (tokens_of e default)) ≡ true
 
 end_xml : (b : Bool) (name : Text) → is_xml_text name ≡ true → is_xml_text (all_written (end_tag b name)) ≡ true
@@ -37,7 +37,7 @@ end_xml true name h = xml-nil
 end_xml false name h =
     xml-append (codes "</" ++ name ++ codes ">") [] (xml-append (codes "</" ++ name) (codes ">") (xml-append (codes "</") name (ascii_xml (codes "</") refl) h) (ascii_xml (codes ">") refl)) xml-nil
 
-kids_xml : (deep : ℕ) → XmlWithin deep → (space : Text) (ns : List Node) → greatest (map height ns) ≤ deep → children_keep (map node_kept ns) ≡ true →
+pub kids_xml : (deep : ℕ) → XmlWithin deep → (space : Text) (ns : List Node) → greatest (map height ns) ≤ deep → children_keep (map node_kept ns) ≡ true →
     list_all is_narrow (kids_tokens space ns) ≡ true → is_xml_text (all_written (kids_tokens space ns)) ≡ true
 kids_xml deep below space [] low kept narrow = xml-nil
 kids_xml deep below space (n ∷ ns) low kept narrow =
@@ -74,7 +74,7 @@ element_xml deep below e low kept default narrow =
     (ap is_xml_text (all_written-append (kids_tokens e.space e.children) finish)
     ∙ xml-append (all_written (kids_tokens e.space e.children)) (all_written finish) kids (end_xml (length e.children == 0) e.local local_xml))
 
-xml_within : (deep : ℕ) → XmlWithin deep
+pub xml_within : (deep : ℕ) → XmlWithin deep
 xml_within zero e low kept default narrow = absurd (let out = depth_out e in omega arith)
 xml_within (suc deep) e low kept default narrow = element_xml deep (xml_within deep) e low kept default narrow
 
@@ -98,7 +98,7 @@ own_front s h =
     sym (ap encode_utf8_all (passes_all is_xml_character (chars s) (and_parts (is_utf8 s) (list_all is_xml_character (chars s)) h).1) ∙ utf8_again s (xml_is_utf8 s h))
 
 -- a text that begins with `<` and a name has no declaration and no mark
-record BeginsTag (s : Text) : Type 0 where
+pub record BeginsTag (s : Text) : Type 0 where
   pub name : ℕ
   pub rest : Text
   pub starts : starts_name name ≡ true
@@ -125,7 +125,7 @@ root_begins root named =
     (all_written (kids_tokens root.space root.children ++ end_tag (length root.children == 0) root.local)))
 
 -- a start tag may come first
-first_stands : (s name : Text) (given : List Spelled) (is_empty : Bool) (ks : List Token) → Reads s (start name given is_empty ∷ ks) → Follow true s (start name given is_empty ∷ ks) []
+pub first_stands : (s name : Text) (given : List Spelled) (is_empty : Bool) (ks : List Token) → Reads s (start name given is_empty ∷ ks) → Follow true s (start name given is_empty ∷ ks) []
 first_stands s name given is_empty ks (next, begins, more) =
     (next, record { spelled = begins.spelled; is_spelled = begins.is_spelled; is_front = begins.is_front; may_stand = tt }, more)
 
@@ -138,6 +138,13 @@ canonical-follows root reads =
 
 -- ---- the law
 
+-- a text that begins with a tag, and reads as few enough tokens, is a document of these
+pub is_document : (s : Text) (ks : List Token) → is_xml_text s ≡ true → BeginsTag s → Follow true s ks [] → length ks ≤ max_tokens → IsTokensOf ks s
+is_document s ks xml tag follows few =
+    let is_text : IsText s = (xml_is_utf8 s xml, λ encoding declared behind begins any. absurd (no_declaration s tag (Some encoding) declared behind begins)) in
+    let covers : Covers s ks = (inr (λ encoding declared behind begins. no_declaration s tag encoding declared behind begins, own_front s xml), follows) in
+    subst (λ t. IsText t × Covers t ks × (length ks ≤ max_tokens)) (sym (no_mark s tag)) (is_text, covers, few)
+
 -- the canonical text of a tree spells the tree, where it is short enough to be read
 pub canonical-spells : (root : Element) → is_well_formed root ≡ true → is_writable root ≡ true → Spells root (canonical root)
 canonical-spells root well writable =
@@ -148,13 +155,7 @@ canonical-spells root well writable =
     let xml : is_xml_text (canonical root) ≡ true = xml_within 64 root low facts.0 [] bounds.1 in
     let tag : BeginsTag (canonical root) = root_begins root (tag_keeps root [] facts.0 bounds.1).0.local in
     let follows : Follow true (canonical root) (canonical_tokens root) [] = canonical-follows root (canonical-reads root facts.0 low bounds.1) in
-    let is_text : IsText (canonical root) =
-    (xml_is_utf8 (canonical root) xml, λ encoding declared behind begins any. absurd (no_declaration (canonical root) tag (Some encoding) declared behind begins)) in
-    let covers : Covers (canonical root) (canonical_tokens root) =
-    (inr (λ encoding declared behind begins. no_declaration (canonical root) tag encoding declared behind begins, own_front (canonical root) xml), follows) in
-    let tokens : IsTokensOf (canonical_tokens root) (canonical root) =
-    subst (λ s. IsText s × Covers s (canonical_tokens root) × (length (canonical_tokens root) ≤ max_tokens)) (sym (no_mark (canonical root) tag)) (is_text, covers, few) in
-    (canonical_tokens root, tokens, canonical-is_root root facts.0 low bounds.1)
+    (canonical_tokens root, is_document (canonical root) (canonical_tokens root) xml tag follows few, canonical-is_root root facts.0 low bounds.1)
 
 -- what the writer gives spells the tree
 pub written_spells : (root : Element) (bytes : Text) → is_well_formed root ≡ true → (bytes ≡ canonical root) × (is_writable root ≡ true) → Spells root bytes

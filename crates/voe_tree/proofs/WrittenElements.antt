@@ -28,7 +28,7 @@ use Rattle.voe_tree.proofs.WrittenTree.{tokens_of-layer}
 
 -- ---- what is spelled in a tag
 
-abbrev AreSpelled : List Spelled → Type 0
+abbrev pub AreSpelled : List Spelled → Type 0
 AreSpelled [] = Unit {0}
 AreSpelled (a ∷ more) = (is_spelled_name a.name ≡ true) × IsValue 34 a.value × AreSpelled more
 
@@ -59,7 +59,7 @@ numbered_spelled n [] small = tt
 numbered_spelled n (space ∷ more) small =
     (with-spelled (codes "xmlns") (number_prefix n) refl (number_prefix-name n (omega arith)), written_value-is_value space, numbered_spelled (n + 1) more (omega arith))
 
-attributes_spelled : (bindings : Bindings) (spaces : List Text) (attributes : List Attribute) → AllRead bindings spaces attributes → AreSpelled (map (written_attribute spaces) attributes)
+pub attributes_spelled : (bindings : Bindings) (spaces : List Text) (attributes : List Attribute) → AllRead bindings spaces attributes → AreSpelled (map (written_attribute spaces) attributes)
 attributes_spelled bindings spaces [] all = tt
 attributes_spelled bindings spaces (a ∷ more) all = (all.0.spelled, written_value-is_value a.value, attributes_spelled bindings spaces more all.1)
 
@@ -143,7 +143,7 @@ declares : (e : Element) (default : Text) (bindings : Bindings) → TagKeeps e d
     declare (given_of e default) bindings ≡ inside_tag default e.space e.attributes bindings
 declares e default bindings keeps = inside_tag-is default e.space e.attributes bindings (tag_reads e default bindings keeps)
 
-abbrev start_rule_of : Bool → Bool → Bool → Option Rule
+abbrev pub start_rule_of : Bool → Bool → Bool → Option Rule
 start_rule_of deep repeated unbound = if deep then Some too_deep else (if repeated then Some repeated_attribute else (if unbound then Some unbound_prefix else None))
 
 -- the start tag breaks no rule
@@ -189,7 +189,7 @@ tokens_full-with e default ks h =
 
 -- ---- an element as nodes
 
-levels_close : (name : Text) (given : List Spelled) (made : Nodes) (body : List Token) (outer : Levels) → levels_of body ≡ Some (inside name made outer) →
+pub levels_close : (name : Text) (given : List Spelled) (made : Nodes) (body : List Token) (outer : Levels) → levels_of body ≡ Some (inside name made outer) →
     levels_of (start name given false ∷ body) ≡ Some (put (node (element name given made)) outer)
 levels_close name given made body outer h =
     ap (option_and_then (step (start name given false))) h ∙ ap (λ b. cond b (Some (put (node (element name given made)) outer)) None) (is-same name name refl)
@@ -239,7 +239,7 @@ abbrev pub MayOpen : Open → Bool → Type 0
 MayOpen [] rooted = rooted ≡ false
 MayOpen (e ∷ opened) rooted = Unit {0}
 
-start_goes_on : (opened : Open) (rooted : Bool) (name : Text) (given : List Spelled) (is_empty : Bool) (place : ℕ) (ks : List Token) → MayOpen opened rooted →
+pub start_goes_on : (opened : Open) (rooted : Bool) (name : Text) (given : List Spelled) (is_empty : Bool) (place : ℕ) (ks : List Token) → MayOpen opened rooted →
     start_rule opened name given ≡ None → refusal_from (after_token opened (start name given is_empty)) true (place + 1) ks ≡ None →
     refusal_from opened rooted place (start name given is_empty ∷ ks) ≡ None
 start_goes_on [] false name given is_empty place ks may own more =
@@ -254,7 +254,7 @@ start_goes_on (e ∷ opened) false name given is_empty place ks may own more =
 abbrev pub Goes : Open → List Token → Type 0
 Goes opened ks = (place : ℕ) → refusal_from opened true place ks ≡ None
 
-end_goes_on : (name : Text) (bindings : Bindings) (opened : Open) (ks : List Token) → Goes opened ks → AreFine (name, bindings) opened (end name ∷ ks)
+pub end_goes_on : (name : Text) (bindings : Bindings) (opened : Open) (ks : List Token) → Goes opened ks → AreFine (name, bindings) opened (end name ∷ ks)
 end_goes_on name bindings opened ks goes place =
     ap (λ b. or_else (option_map (λ (rule : Rule). (rule, place)) (or_else (if b then None else Some unbalanced) None)) (refusal_from opened true (place + 1) ks)) (is-same name name refl)
     ∙ goes (place + 1)

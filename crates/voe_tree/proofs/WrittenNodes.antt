@@ -51,11 +51,11 @@ abbrev pub first_text : List Kept → Bool
 first_text [] = false
 first_text (k ∷ ks) = k.0
 
-abbrev IsBare : Nodes → Type 0
+abbrev pub IsBare : Nodes → Type 0
 IsBare (node (characters t) ns) = ⊥
 IsBare ns = Unit {0}
 
-record KidsRead (space : Text) (children : List Node) (deep : ℕ) : Type 0 where
+pub record KidsRead (space : Text) (children : List Node) (deep : ℕ) : Type 0 where
   pub nodes : NodesRead space children deep
   pub bare : first_text (map node_kept children) ≡ false → IsBare nodes.made
   pub stops : first_text (map node_kept children) ≡ false → (rest : Text) → Stops rest → Stops (all_written (all_in space (map tokens_in children)) ++ rest)
@@ -128,6 +128,9 @@ kept-text t = ap node_kept (sym (tree.rolls-Text t)) ∙ fold-roll-Node Kept Boo
 pub height-element : (e : Element) → height (tree.Element e) ≡ depth e
 height-element e = ap height (sym (tree.rolls-Element e)) ∙ fold-roll-Node ℕ ℕ node_depth element_depth (Node-F.Element e)
 
+pub height-text : (t : Text) → height (tree.Text t) ≡ 0
+height-text t = ap height (sym (tree.rolls-Text t)) ∙ fold-roll-Node ℕ ℕ node_depth element_depth (Node-F.Text t)
+
 pub depth_out : (e : Element) → depth e ≡ suc (greatest (map height e.children))
 depth_out e = fold_out-Element ℕ ℕ node_depth element_depth e
 
@@ -171,7 +174,7 @@ tag_keeps e default h narrow =
 -- ---- all the nodes
 
 -- the elements of this depth read as they are
-abbrev AllWithin : ℕ → Type 0
+abbrev pub AllWithin : ℕ → Type 0
 AllWithin deep = (e : Element) → depth e ≤ deep → keeps e ≡ true → (default : Text) → list_all is_narrow (tokens_of e default) ≡ true → ElementRead e default deep
 
 element_stops : (e : Element) (space rest : Text) → Stops (all_written (tokens_of e space) ++ rest)
@@ -201,7 +204,7 @@ one_text space t ns deep kids kept apart =
       stops = λ h. absurd (both_ways (node_kept (tree.Text t)).0 h is_text);
     }
 
-kids_within : (deep : ℕ) → AllWithin deep → (space : Text) (ns : List Node) → greatest (map height ns) ≤ deep → children_keep (map node_kept ns) ≡ true →
+pub kids_within : (deep : ℕ) → AllWithin deep → (space : Text) (ns : List Node) → greatest (map height ns) ≤ deep → children_keep (map node_kept ns) ≡ true →
     list_all is_narrow (kids_tokens space ns) ≡ true → KidsRead space ns deep
 kids_within deep below space [] low kept narrow = no_kids space deep
 kids_within deep below space (n ∷ ns) low kept narrow =
@@ -219,7 +222,7 @@ kids_within deep below space (n ∷ ns) low kept narrow =
           (subst (λ m. (node_kept m).0 ≡ true → first_text (map node_kept ns) ≡ false) t.1 facts.2))
     ]
 
-all_within : (deep : ℕ) → AllWithin deep
+pub all_within : (deep : ℕ) → AllWithin deep
 all_within zero e low kept default narrow = absurd (let out = depth_out e in omega arith)
 all_within (suc deep) e low kept default narrow =
     let facts = tag_keeps e default kept narrow in

@@ -19,7 +19,7 @@ use Rattle.voe_tree.proofs.WrittenAttributes.{ReadsAs}
 use Rattle.voe_tree.proofs.WrittenTags.{AllRead, named_attributes-written}
 
 -- a test is false where it contradicts
-false_since : (b : Bool) → (b ≡ true → ⊥) → b ≡ false
+pub false_since : (b : Bool) → (b ≡ true → ⊥) → b ≡ false
 false_since true refuted = absurd (refuted refl)
 false_since false refuted = refl
 
@@ -27,7 +27,7 @@ or_parts : (a b : Bool) → (a || b) ≡ false → (a ≡ false) × (b ≡ false
 or_parts true b h = cc
 or_parts false b h = (refl, h)
 
-or_from : (a b : Bool) → a ≡ false → b ≡ false → (a || b) ≡ false
+pub or_from : (a b : Bool) → a ≡ false → b ≡ false → (a || b) ≡ false
 or_from true b h k = cc
 or_from false b h k = k
 
@@ -52,7 +52,7 @@ apart_from bindings spaces a (b ∷ more) one all h =
     or_from (same_spelled (written_attribute spaces a) (written_attribute spaces b)) (list_any (same_spelled (written_attribute spaces a)) (map (written_attribute spaces) more))
     (names_apart bindings spaces a b one all.0 parts.0) (apart_from bindings spaces a more one all.1 parts.1)
 
-attributes_apart : (bindings : Bindings) (spaces : List Text) (attributes : List Attribute) → AllRead bindings spaces attributes → has_pair same_attribute attributes ≡ false →
+pub attributes_apart : (bindings : Bindings) (spaces : List Text) (attributes : List Attribute) → AllRead bindings spaces attributes → has_pair same_attribute attributes ≡ false →
     has_pair same_spelled (map (written_attribute spaces) attributes) ≡ false
 attributes_apart bindings spaces [] all h = refl
 attributes_apart bindings spaces (a ∷ more) all h =
@@ -62,7 +62,7 @@ attributes_apart bindings spaces (a ∷ more) all h =
 
 -- ---- the declarations
 
-declared_apart : (d : Spelled) → is_declaration d ≡ true → (bindings : Bindings) (spaces : List Text) (attributes : List Attribute) → AllRead bindings spaces attributes →
+pub declared_apart : (d : Spelled) → is_declaration d ≡ true → (bindings : Bindings) (spaces : List Text) (attributes : List Attribute) → AllRead bindings spaces attributes →
     list_any (same_spelled d) (map (written_attribute spaces) attributes) ≡ false
 declared_apart d declared bindings spaces [] all = refl
 declared_apart d declared bindings spaces (a ∷ more) all =
@@ -131,7 +131,7 @@ named_any a (b ∷ more) h =
     (false_since (same_named a b) (λ e. both_ways (same_attribute a b) parts.0 (and_parts (nat_lt 0 (length a.space)) (same_attribute a b) e).1))
     (named_any a more parts.1)
 
-named_pairs : (attributes : List Attribute) → has_pair same_attribute attributes ≡ false → has_pair same_named attributes ≡ false
+pub named_pairs : (attributes : List Attribute) → has_pair same_attribute attributes ≡ false → has_pair same_named attributes ≡ false
 named_pairs [] h = refl
 named_pairs (a ∷ more) h =
     let parts = or_parts (list_any (same_attribute a) more) (has_pair same_attribute more) h in

@@ -23,7 +23,7 @@ abbrev pub AllRead : Bindings → List Text → List Attribute → Type 0
 AllRead bindings spaces [] = Unit {0}
 AllRead bindings spaces (a ∷ more) = ReadsAs bindings spaces a × AllRead bindings spaces more
 
-all_read : (bindings : Bindings) (spaces : List Text) (attributes : List Attribute) → list_all attribute_keeps attributes ≡ true → BindsNumbers spaces bindings →
+pub all_read : (bindings : Bindings) (spaces : List Text) (attributes : List Attribute) → list_all attribute_keeps attributes ≡ true → BindsNumbers spaces bindings →
     HasNumbers spaces attributes → length spaces < 2 ^ 64 → AllRead bindings spaces attributes
 all_read bindings spaces [] keeps binds has small = tt
 all_read bindings spaces (a ∷ more) keeps binds has small =
@@ -39,7 +39,7 @@ abbrev pub inside_tag : Text → Text → List Attribute → Bindings → Bindin
 inside_tag default space attributes bindings =
     declare (numbered_declarations 0 (numbered_spaces attributes)) (declare (default_declaration default space) bindings)
 
-declare-attributes : (bindings other : Bindings) (spaces : List Text) (attributes : List Attribute) → AllRead other spaces attributes →
+pub declare-attributes : (bindings other : Bindings) (spaces : List Text) (attributes : List Attribute) → AllRead other spaces attributes →
     declare (map (written_attribute spaces) attributes) bindings ≡ bindings
 declare-attributes bindings other spaces [] all = refl
 declare-attributes bindings other spaces (a ∷ more) all =
@@ -95,7 +95,7 @@ undeclaring-numbered : (n : ℕ) (spaces : List Text) → undeclaring (numbered_
 undeclaring-numbered n [] = refl
 undeclaring-numbered n (space ∷ more) = rw (numbered_name-declared n (written_value space)) (undeclaring-numbered (n + 1) more)
 
-undeclaring-attributes : (bindings : Bindings) (spaces : List Text) (attributes : List Attribute) → AllRead bindings spaces attributes →
+pub undeclaring-attributes : (bindings : Bindings) (spaces : List Text) (attributes : List Attribute) → AllRead bindings spaces attributes →
     undeclaring (map (written_attribute spaces) attributes) ≡ map (written_attribute spaces) attributes
 undeclaring-attributes bindings spaces [] all = refl
 undeclaring-attributes bindings spaces (a ∷ more) all =
@@ -118,7 +118,7 @@ named_written bindings spaces a reads =
     ∙ ap (λ l. record { space = a.space; local = l; value = read_value (written_value a.value) }) reads.local
     ∙ ap (λ v. record { space = a.space; local = a.local; value = v }) (read_value-written a.value)
 
-map_named : (bindings : Bindings) (spaces : List Text) (attributes : List Attribute) → AllRead bindings spaces attributes →
+pub map_named : (bindings : Bindings) (spaces : List Text) (attributes : List Attribute) → AllRead bindings spaces attributes →
     map (named_attribute bindings) (map (written_attribute spaces) attributes) ≡ attributes
 map_named bindings spaces [] all = refl
 map_named bindings spaces (a ∷ more) all =
@@ -133,7 +133,7 @@ named_attributes-written bindings default space attributes all =
 
 -- ---- no prefix is unbound
 
-bound_all : (bindings : Bindings) (spaces : List Text) (attributes : List Attribute) → AllRead bindings spaces attributes →
+pub bound_all : (bindings : Bindings) (spaces : List Text) (attributes : List Attribute) → AllRead bindings spaces attributes →
     list_any (λ (a : Spelled). not (is_bound bindings (prefix_of a.name))) (map (written_attribute spaces) attributes) ≡ false
 bound_all bindings spaces [] all = refl
 bound_all bindings spaces (a ∷ more) all =

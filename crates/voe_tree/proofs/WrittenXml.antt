@@ -17,8 +17,9 @@ use Rattle.xml_lexer.specs.Token.{Spelled, start}
 use Rattle.xml_lexer.specs.Spelling.{same, tag_end}
 use Rattle.voe_tree.specs.Texts.{is_xml_text}
 use Rattle.voe_tree.specs.Shape.{attribute_keeps, is_local_name, is_xmlns}
+use Rattle.voe_tree.specs.Names.{xml_namespace}
 use Rattle.voe_tree.specs.declared.element.Attribute.{Attribute}
-use Rattle.voe_tree.specs.Canonical.{add_space, add_spaces, all_written, default_declaration, is_escaped, is_escaped_in_value, is_numbered, numbered_declarations, numbered_spaces, reference_to, text_tokens, written, written_attribute, written_attributes, written_prefix, written_spelled, written_value, xml_space}
+use Rattle.voe_tree.specs.Canonical.{add_space, add_spaces, all_written, default_declaration, is_escaped, is_escaped_in_value, is_numbered, numbered_declarations, numbered_spaces, reference_to, text_tokens, written, written_attribute, written_attributes, written_prefix, written_spelled, written_value}
 use Rattle.voe_tree.proofs.XmlTexts.{xml-nil, xml-append, xml-around, xml-encode}
 use Rattle.voe_tree.proofs.WrittenRuns.{text_tokens-escaped, text_tokens-plain}
 use Rattle.voe_tree.proofs.WrittenValues.{text_cases, value_cases}
@@ -26,7 +27,7 @@ use Rattle.voe_tree.proofs.WrittenTexts.{put_byte-written}
 
 -- ---- ASCII
 
-abbrev is_printable : ℕ → Bool
+abbrev pub is_printable : ℕ → Bool
 is_printable b = nat_le 32 b && nat_lt b 128
 
 ascii_character : (b : ℕ) → 32 ≤ b → b < 128 → is_xml_character b ≡ true
@@ -142,7 +143,7 @@ text_xml t h = ap is_xml_text (text_is t) ∙ escape_xml is_escaped text_small t
 
 -- ---- tags
 
-abbrev AreXml : List Spelled → Type 0
+abbrev pub AreXml : List Spelled → Type 0
 AreXml [] = Unit {0}
 AreXml (a ∷ more) = (is_xml_text a.name ≡ true) × (is_xml_text a.value ≡ true) × AreXml more
 
@@ -222,9 +223,9 @@ prefix_xml spaces space small =
         | false ↦ xml-append (codes "a" ++ decimal number) (codes ":") (xml-append (codes "a") (decimal number) (ascii_xml (codes "a") refl) (decimal_xml number (omega arith))) (ascii_xml (codes ":") refl)
       ]
     ] in
-    both (length space == 0) (same space xml_space)
+    both (length space == 0) (same space xml_namespace)
 
-attributes_xml : (spaces : List Text) (attributes : List Attribute) → length spaces < 2 ^ 64 → list_all attribute_keeps attributes ≡ true → AreXml (map (written_attribute spaces) attributes)
+pub attributes_xml : (spaces : List Text) (attributes : List Attribute) → length spaces < 2 ^ 64 → list_all attribute_keeps attributes ≡ true → AreXml (map (written_attribute spaces) attributes)
 attributes_xml spaces [] small h = tt
 attributes_xml spaces (a ∷ more) small h =
     let parts = and_parts (attribute_keeps a) (list_all attribute_keeps more) h in

@@ -5,6 +5,7 @@ use Rattle.xml_lexer.specs.Characters.{Text}
 use Rattle.xml_lexer.specs.Token.{Token, start, end, reference, text, Spelled}
 use Rattle.xml_lexer.specs.Spelling.{same, tag_end, max_attributes}
 use Rattle.xml_lexer.specs.Phases.{max_tokens}
+use Rattle.voe_tree.specs.Names.{xml_namespace}
 use Rattle.voe_tree.specs.declared.element.Attribute.{Attribute}
 use Rattle.voe_tree.specs.declared.element.Element.{Element, fold-Element}
 use Rattle.voe_tree.specs.declared.element.Node.{Node, fold-Node}
@@ -42,13 +43,9 @@ text_tokens (b ∷ bs) = if is_escaped b then reference b ∷ text_tokens bs els
 
 -- ---- tags
 
--- the namespace of the prefix `xml`: Namespaces in XML 1.0, section 3
-abbrev pub xml_space : Text
-xml_space = codes "http://www.w3.org/XML/1998/namespace"
-
 -- a namespace that takes a prefix with a number
 abbrev pub is_numbered : Text → Bool
-is_numbered space = not (length space == 0 || same space xml_space)
+is_numbered space = not (length space == 0 || same space xml_namespace)
 
 -- one more namespace where it takes a number and has none yet
 abbrev pub add_space : List Text → Text → List Text
@@ -65,7 +62,7 @@ numbered_spaces attributes = add_spaces [] attributes
 -- how the name of an attribute in the namespace begins: with nothing, `xml:`, or `a` and the namespace's number
 abbrev pub written_prefix : List Text → Text → Text
 written_prefix spaces space =
-    if length space == 0 then [] else (if same space xml_space then codes "xml:" else codes "a" ++ decimal (position_or_len (same space) spaces) ++ codes ":")
+    if length space == 0 then [] else (if same space xml_namespace then codes "xml:" else codes "a" ++ decimal (position_or_len (same space) spaces) ++ codes ":")
 
 abbrev pub written_attribute : List Text → Attribute → Spelled
 written_attribute spaces a = record { name = written_prefix spaces a.space ++ a.local; value = written_value a.value }

@@ -2,10 +2,12 @@ pub mod Texts
 pub mod Pairs
 pub mod Shape
 pub mod Contents
+pub mod Places
 pub mod Identifier
 pub mod Validity
 pub mod Canonical
 pub mod Writing
+pub mod Prefixed
 pub mod Build
 pub mod Names
 pub mod Rules

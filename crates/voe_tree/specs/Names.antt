@@ -60,6 +60,7 @@ declare [] bindings = bindings
 declare (a ∷ more) bindings =
     declare more (if is_declaration a then (declared_prefix a.name, read_value a.value) ∷ bindings else bindings)
 
+-- the namespace of the prefix `xml`: Namespaces in XML 1.0, section 3
 abbrev pub xml_namespace : Text
 xml_namespace = codes "http://www.w3.org/XML/1998/namespace"
 

@@ -6,7 +6,7 @@ use Rattle.xml_lexer.specs.Characters.{Text}
 use Rattle.xml_lexer.specs.Token.{Token, text, Spelled}
 use Rattle.xml_lexer.specs.Spelling.{max_attributes}
 use Rattle.xml_lexer.specs.Phases.{max_tokens}
-use Rattle.voe_tree.specs.Canonical.{all_written, is_escaped, is_escaped_in_value, is_narrow, is_writable, max_bytes, written_spelled}
+use Rattle.voe_tree.specs.Canonical.{all_written, is_escaped, is_escaped_in_value, is_narrow, is_short, is_writable, max_bytes, written_spelled}
 use Rattle.voe_tree.specs.declared.element.Element.{Element}
 use Rattle.voe_tree.specs.declared.write.WriteFault.{WriteFault}
 use Rattle.voe_tree.specs.declared.write.WriteFault.TheVariants.{TooLarge, NoMemory}
@@ -15,6 +15,15 @@ use Rattle.voe_tree.specs.declared.write.WriteFault.TheVariants.{TooLarge, NoMem
 abbrev pub RefusesWriting : Element → WriteFault → Type 0
 RefusesWriting root TooLarge = is_writable root ≡ false
 RefusesWriting root NoMemory = Unit {0}
+
+-- so many bytes and tokens can be read
+abbrev pub are_few : ℕ → ℕ → Bool
+are_few bytes tokens = nat_le bytes max_bytes && nat_le tokens max_tokens
+
+-- Tokens are too large exactly where their text could not be read. Want of memory says nothing.
+abbrev pub RefusesWritten : List Token → WriteFault → Type 0
+RefusesWritten ks TooLarge = is_short (length (all_written ks)) ks ≡ false
+RefusesWritten ks NoMemory = Unit {0}
 
 -- a run of text that is not escaped, which is no token where it is empty
 abbrev pub run_tokens : Text → List Token

@@ -23,4 +23,4 @@ pub use contents::{is_blank, trim_blanks};
 pub use element::{Attribute, Element, Node, Tree};
 pub use fault::TreeFault;
 pub use read::read_tree;
-pub use write::{WriteFault, write_tree, written_trees_read_back};
+pub use write::{WriteFault, Writer, write_tree, written_trees_read_back};

@@ -11,6 +11,9 @@ ghost use Rattle.voe_tree.specs.Rules.{same_named, same_spelled};
 use crate::element::Attribute;
 use xml_lexer::SpelledAttribute;
 
+/// The namespace of the prefix `xml` (Namespaces in XML 1.0, section 3).
+pub const XML_NAMESPACE: &str = "http://www.w3.org/XML/1998/namespace";
+
 /// A name as spelled, in its two parts.
 #[derive(Clone, Copy)]
 pub struct NameParts<'a> {

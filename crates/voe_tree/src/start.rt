@@ -11,7 +11,7 @@ ghost use Rattle.voe_tree.specs.View.{bindings_of, stack_of};
 use crate::element::{Attribute, Element};
 use crate::level::Binding;
 use crate::lookup::{bound, bound_around};
-use crate::names::{declared_prefix, is_declared_name, name_parts};
+use crate::names::{XML_NAMESPACE, declared_prefix, is_declared_name, name_parts};
 use crate::nesting::Nesting;
 use crate::values::read_value;
 use sqlite_items::Items;
@@ -55,7 +55,7 @@ impl<'a> Nesting<'a> {
         ensures { result.now ≡ namespace (bindings_of own.now ++ bindings_at (stack_of self.now)) prefix.now }
     {
         if prefix == "xml" {
-            return "http://www.w3.org/XML/1998/namespace";
+            return XML_NAMESPACE;
         }
         match bound(own, prefix) {
             Some(found) => found.as_str(),

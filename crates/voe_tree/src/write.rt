@@ -16,7 +16,7 @@ use voe_values::{Bytes, NoMemory};
 mod tag;
 mod writer;
 
-use writer::Writer;
+pub use writer::Writer;
 
 const MAX_BYTES: usize = 1_048_576;
 

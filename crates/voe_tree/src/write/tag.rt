@@ -10,19 +10,18 @@ ghost use Rattle.voe_tree.specs.Writing.{IsWide, all_spelled, texts};
 use super::WriteFault;
 use super::writer::Writer;
 use crate::element::{Attribute, Element};
+use crate::names::XML_NAMESPACE;
 use itoa::Buffer;
 use std::alloc::Global;
 use voe_values::NoMemory;
 
 const MAX_ATTRIBUTES: usize = 64;
 
-const XML_SPACE: &str = "http://www.w3.org/XML/1998/namespace";
-
 /// Whether a namespace takes a prefix with a number.
 fn is_numbered(space: &str) -> bool
     ensures { result ≡ is_numbered space.now }
 {
-    !space.is_empty() && space != XML_SPACE
+    !space.is_empty() && space != XML_NAMESPACE
 }
 
 /// The place of a namespace among these, or their number.
@@ -185,7 +184,7 @@ impl Writer {
         if space.is_empty() {
             return Ok(());
         }
-        if space == XML_SPACE {
+        if space == XML_NAMESPACE {
             return self.put(b"xml:");
         }
         self.put(b"a")?;

@@ -1,21 +1,25 @@
 //! The text as it grows, and its characters.
 
-ghost use Rattle.std.specs.Prelude.{◌≡◌, ◌+◌, ◌<◌, ◌≤◌, ◌||◌, ◌++◌, [], nat_lt, true, OnOk, codes, length, slice_index};
+ghost use Rattle.std.specs.Prelude.{◌≡◌, ◌+◌, ◌<◌, ◌≤◌, ◌||◌, ◌++◌, [], nat_lt, true, false, IfErr, IfOk, IsTrue, OnOk, codes, length, slice_index};
 ghost use Rattle.std.specs.List.{prefix_len};
 ghost use Rattle.xml_lexer.specs.Phases.{max_tokens};
 ghost use Rattle.xml_lexer.specs.Token.{end};
 ghost use Rattle.voe_tree.specs.Canonical.{all_written, is_escaped, is_escaped_in_value, max_bytes, reference_to, text_tokens, written, written_value};
-ghost use Rattle.voe_tree.specs.Writing.{is_run_byte, is_value_run_byte, run_tokens};
+ghost use Rattle.voe_tree.specs.Writing.{are_few, is_run_byte, is_value_run_byte, run_tokens};
+ghost use Rattle.voe_tree.specs.declared.write.WriteFault.TheVariants.{TooLarge};
 
-use super::{MAX_BYTES, MAX_TOKENS};
+use super::{MAX_BYTES, MAX_TOKENS, WriteFault};
 use std::alloc::Global;
 use voe_values::{Bytes, NoMemory};
 
-/// The text so far, and how many tokens it has.
+/// XML as it is written, token by token. A token's pieces are put one after another, and its last piece finishes it.
+/// After want of memory some of a piece may stand.
 #[derive(Drop)]
-pub(super) struct Writer {
-    pub(super) bytes: Vec<u8>,
-    pub(super) tokens: usize,
+pub struct Writer {
+    /// What is written so far.
+    pub bytes: Vec<u8>,
+    /// How many tokens it has.
+    pub tokens: usize,
     ghost few: { tokens ≤ length bytes.items },
 }
 
@@ -91,7 +95,8 @@ fn value_run(value: &[u8]) -> (&[u8], &[u8])
 }
 
 impl Writer {
-    pub(super) fn new(alloc: Global) -> Writer
+    /// Nothing written yet. It takes no memory.
+    pub fn new(alloc: Global) -> Writer
         ensures bytes { result.bytes.items ≡ [] }
         ensures tokens { result.tokens ≡ 0 }
     {
@@ -101,21 +106,33 @@ impl Writer {
         }
     }
 
-    pub(super) fn into_bytes(self) -> Bytes
+    /// The bytes as they stand.
+    pub fn into_bytes(self) -> Bytes
         ensures { result ≡ self.bytes.items }
     {
         Bytes::from_vec(self.bytes)
     }
 
-    /// Whether it is too large to be read.
-    pub(super) fn is_full(&self) -> bool
+    /// The bytes, where they and their tokens are few enough to be read; else `TooLarge`.
+    pub fn finished(self) -> Result<Bytes, WriteFault>
+        ensures few { IfOk result (λ bytes. (bytes ≡ self.bytes.items) × IsTrue (are_few (length self.bytes.items) self.tokens)) }
+        ensures many { IfErr result (λ fault. (fault ≡ TooLarge) × (are_few (length self.bytes.items) self.tokens ≡ false)) }
+    {
+        if self.is_full() {
+            return Err(WriteFault::TooLarge);
+        }
+        Ok(self.into_bytes())
+    }
+
+    /// Whether it is too large to be read: more than 1,048,576 bytes or 65,536 tokens.
+    pub fn is_full(&self) -> bool
         ensures { result ≡ (nat_lt max_bytes (length self.now.bytes.items) || nat_lt max_tokens self.now.tokens) }
     {
         self.bytes.len() > MAX_BYTES || self.tokens > MAX_TOKENS
     }
 
     /// Adds a piece of a token.
-    pub(super) fn put(&mut self, piece: &[u8]) -> Result<(), NoMemory>
+    pub fn put(&mut self, piece: &[u8]) -> Result<(), NoMemory>
         ensures bytes { OnOk result (self.new.bytes.items ≡ self.old.bytes.items ++ piece.now) }
         ensures tokens { OnOk result (self.new.tokens ≡ self.old.tokens) }
     {
@@ -124,7 +141,7 @@ impl Writer {
     }
 
     /// Adds the end of a token, which is not empty, or all of one.
-    pub(super) fn finish(&mut self, piece: &[u8]) -> Result<(), NoMemory>
+    pub fn finish(&mut self, piece: &[u8]) -> Result<(), NoMemory>
         requires { 0 < length piece.now }
         ensures bytes { OnOk result (self.new.bytes.items ≡ self.old.bytes.items ++ piece.now) }
         ensures tokens { OnOk result (self.new.tokens ≡ self.old.tokens + 1) }
@@ -134,8 +151,8 @@ impl Writer {
         Ok(())
     }
 
-    /// Adds `="`, a value as it is written, and `"`.
-    pub(super) fn value(&mut self, value: &[u8]) -> Result<(), NoMemory>
+    /// Adds `="`, a value as it is written, and `"`: in it `&`, `<`, `"`, TAB, LF and CR are references.
+    pub fn value(&mut self, value: &[u8]) -> Result<(), NoMemory>
         ensures bytes { OnOk result (self.new.bytes.items ≡ self.old.bytes.items ++ codes "=\"" ++ written_value value.now ++ codes "\"") }
         ensures tokens { OnOk result (self.new.tokens ≡ self.old.tokens) }
     {
@@ -159,8 +176,8 @@ impl Writer {
         Ok(())
     }
 
-    /// Adds the tokens of a text.
-    pub(super) fn text(&mut self, text: &[u8]) -> Result<(), NoMemory>
+    /// Adds the tokens of a text: `&`, `<`, `>` and CR are references.
+    pub fn text(&mut self, text: &[u8]) -> Result<(), NoMemory>
         ensures bytes { OnOk result (self.new.bytes.items ≡ self.old.bytes.items ++ all_written (text_tokens text.now)) }
         ensures tokens { OnOk result (self.new.tokens ≡ self.old.tokens + length (text_tokens text.now)) }
     {
@@ -185,7 +202,8 @@ impl Writer {
         self.finish(run)
     }
 
-    pub(super) fn end_tag(&mut self, name: &str) -> Result<(), NoMemory>
+    /// Adds an end tag.
+    pub fn end_tag(&mut self, name: &str) -> Result<(), NoMemory>
         ensures bytes { OnOk result (self.new.bytes.items ≡ self.old.bytes.items ++ written (end name.now)) }
         ensures tokens { OnOk result (self.new.tokens ≡ self.old.tokens + 1) }
     {
