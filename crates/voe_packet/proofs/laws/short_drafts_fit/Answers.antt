@@ -1,0 +1,5 @@
+use Rattle.voe_packet.proofs.Short.{short-fits}
+use Rattle.voe_packet.proofs.laws.short_drafts_fit.Goals as goal
+
+pub returns-clause-fits : goal.returns-clause-fits
+returns-clause-fits c = short-fits
