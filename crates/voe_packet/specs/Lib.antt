@@ -1,4 +1,3 @@
-pub mod Identified
 pub mod Words
 pub mod Params
 pub mod Parts

@@ -8,14 +8,14 @@ ghost use Rattle.voe_tree.specs.Identifier.{is_identifier};
 ghost use Rattle.voe_tree.specs.Validity.{is_valid};
 ghost use Rattle.voe_packet.specs.Params.{param_token};
 ghost use Rattle.voe_packet.specs.Parts.{packet_of};
-ghost use Rattle.voe_packet.specs.Drafts.{RefusesDraft, draft_root, drafted_packet, fits_packet, has_identifier, has_xml_texts, packet_text};
+ghost use Rattle.voe_packet.specs.Drafts.{RefusesDraft, draft_root, drafted_packet, fits_packet, has_identifier, has_xml_texts, is_xml_citation, is_xml_param, packet_text};
 ghost use Rattle.voe_packet.specs.DraftTokens.{citation_tokens, cited_tokens, root_token, what_tokens};
 
 use crate::packet::Citation;
 use crate::param::Param;
 use crate::words::{cite_word, role_word};
 use std::alloc::Global;
-use voe_tree::{WriteFault, Writer};
+use voe_tree::{WriteFault, Writer, is_xml_text};
 use voe_values::{Bytes, Ivorn, Listing, NoMemory, Role};
 
 /// What a packet is to say.
@@ -31,11 +31,48 @@ pub struct Draft {
     pub citations: Listing<Citation>,
 }
 
+impl Draft {
+    /// Whether all its texts, identifiers among them, are made of XML characters (XML 1.0, section 2.2), so that they
+    /// may be written. It takes no memory.
+    pub fn has_xml_texts(&self) -> bool
+        ensures { result ≡ has_xml_texts self.now }
+    {
+        is_xml_text(self.identifier.as_str())
+            && are_xml_params(self.params.as_slice())
+            && are_xml_citations(self.citations.as_slice())
+    }
+}
+
+fn are_xml_params(params: &[Param]) -> bool
+    ensures { result ≡ list_all is_xml_param params.now }
+{
+    params.iter().all(|param| is_xml_param(param))
+}
+
+fn is_xml_param(param: &Param) -> bool
+    ensures { result ≡ is_xml_param param.now }
+{
+    is_xml_text(param.name.as_str()) && is_xml_text(param.value.as_str())
+}
+
+fn are_xml_citations(citations: &[Citation]) -> bool
+    ensures { result ≡ list_all is_xml_citation citations.now }
+{
+    citations.iter().all(|citation| is_xml_citation(citation))
+}
+
+fn is_xml_citation(citation: &Citation) -> bool
+    ensures { result ≡ is_xml_citation citation.now }
+{
+    is_xml_text(citation.identifier.as_str())
+}
+
 /// The draft as a packet of VOEvent 2.0, in UTF-8 and without a declaration. `What` and `Citations` are left out where
 /// they would be empty. `TooLarge` comes exactly where the packet would have more than 1,048,576 bytes or 65,536
 /// tokens, so that it could not be read. What is written is a valid packet with the draft's parts and no others.
 ///
-/// All texts must be made of XML characters; the type of an identifier does not say that of it.
+/// All texts must be made of XML characters, as `has_xml_texts` tells; the type of an identifier does not say it of
+/// that.
 pub fn write_packet(alloc: Global, draft: &Draft) -> Result<Bytes, WriteFault>
     requires { IsTrue (has_xml_texts draft.now) }
     ensures text { MatchResult result (λ bytes. (bytes ≡ packet_text draft.now) × IsTrue (fits_packet draft.now)) (λ fault. RefusesDraft draft.now fault) }

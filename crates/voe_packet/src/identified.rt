@@ -1,7 +1,7 @@
 //! The identifier by which a document is known.
 
 ghost use Rattle.std.specs.Prelude.{◌≡◌, IfOk};
-ghost use Rattle.voe_packet.specs.Identified.{identifier_of};
+ghost use Rattle.voe_tree.specs.Identifier.{identifier_of};
 
 use std::alloc::Global;
 use voe_tree::Tree;

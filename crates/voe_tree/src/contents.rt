@@ -2,9 +2,10 @@
 
 ghost use Rattle.std.specs.Prelude.{◌≡◌, ◌-◌, ◌<◌, ◌≤◌, ◌++◌, IfOk, IsTrue, OnOk, length, slice_index};
 ghost use Rattle.std.specs.Option.{option_copied};
-ghost use Rattle.std.specs.List.{prefix_len, suffix_len};
-ghost use Rattle.xml_lexer.specs.Characters.{is_blank};
-ghost use Rattle.voe_tree.specs.Texts.{trimmed};
+ghost use Rattle.std.specs.List.{list_all, prefix_len, suffix_len};
+ghost use Rattle.std.specs.Str.{chars};
+ghost use Rattle.xml_lexer.specs.Characters.{is_blank, is_xml_character};
+ghost use Rattle.voe_tree.specs.Texts.{is_xml_text, trimmed};
 ghost use Rattle.voe_tree.specs.Contents.{attribute_of, child_of, is_called, string_of};
 
 use crate::element::{Element, Node};
@@ -41,6 +42,25 @@ pub fn is_blank(byte: u8) -> bool
     ensures { result ≡ is_blank byte }
 {
     matches!(byte, b' ' | b'\t' | b'\n' | b'\r')
+}
+
+/// Whether the text is made of XML characters (XML 1.0, section 2.2). It takes no memory.
+pub fn is_xml_text(text: &str) -> bool
+    ensures { result ≡ is_xml_text text.now }
+{
+    are_xml_characters(text)
+}
+
+fn are_xml_characters(text: &str) -> bool
+    ensures { result ≡ list_all is_xml_character (chars text.now) }
+{
+    text.chars().all(|c| is_xml_character(c))
+}
+
+fn is_xml_character(c: char) -> bool
+    ensures { result ≡ is_xml_character c }
+{
+    matches!(c, '\t' | '\n' | '\r') || (c >= ' ' && c != '\u{FFFE}' && c != '\u{FFFF}')
 }
 
 /// The text without the blanks at both its ends.

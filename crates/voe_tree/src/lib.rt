@@ -19,7 +19,7 @@ mod take;
 mod values;
 mod write;
 
-pub use contents::{is_blank, trim_blanks};
+pub use contents::{is_blank, is_xml_text, trim_blanks};
 pub use element::{Attribute, Element, Node, Tree};
 pub use fault::TreeFault;
 pub use read::read_tree;
