@@ -270,8 +270,8 @@ impl<D: Disk> Book<D> {
             → Keeps image self.old.config (kept_notes (D.arming self.old.disk).calls fill self.old.notes note)) }
     {
         match append_note(self.alloc, &mut self.journal, &mut self.records, &note) {
-            Ok(entry) => {
-                self.records.add(note, entry);
+            Ok(key) => {
+                self.records.add(note, key);
                 Ok(())
             }
             Err(fault) => Err((note, fault)),

@@ -1,0 +1,9 @@
+pub mod KnownPlaces
+pub mod Telling
+pub mod Payload_lists
+pub mod SingleBook
+pub mod OpenPlaces
+pub mod NextOpen
+pub mod Following
+pub mod Sending
+pub mod Below

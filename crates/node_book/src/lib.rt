@@ -1,0 +1,22 @@
+//! The notes of a node, kept in a journal, and what is asked of them.
+//!
+//! A book is a configuration and a list of notes. Its contract speaks of these, of the disk through the disk's own
+//! contract, and of nothing else of the journal below. What a note's packet says is not its concern.
+#![tactic(auto)]
+
+mod appending;
+mod book;
+mod edges;
+mod fault;
+mod index;
+mod known;
+mod laws;
+mod making;
+mod open;
+mod opening;
+mod records;
+
+pub use book::Book;
+pub use fault::BookFault;
+pub use laws::{one_book, one_making};
+pub use node_notes::{Config, LinkConfig, is_config, keeps_form};
