@@ -7,3 +7,6 @@ pub mod NextOpen
 pub mod Following
 pub mod Sending
 pub mod Below
+pub mod Free
+pub mod Rooms
+pub mod Made

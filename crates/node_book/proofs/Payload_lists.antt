@@ -23,7 +23,7 @@ parts_at xs i x is =
     let lt = slice_get_within xs i x (sym is) in
     sym (take-append-drop i xs) ∙ ap (λ (l : List (List ℕ)). take i xs ++ l) (drop_more xs i [] lt ∙ ap (λ (y : List ℕ). y ∷ drop (i + 1) xs) (get_or_from_slice_get xs i x [] (sym is)))
 
-front_at : (xs : List (List ℕ)) (i : ℕ) (x : List ℕ) → Some x ≡ slice_get xs i → take (i + 1) xs ≡ take i xs ++ x ∷ []
+pub front_at : (xs : List (List ℕ)) (i : ℕ) (x : List ℕ) → Some x ≡ slice_get xs i → take (i + 1) xs ≡ take i xs ++ x ∷ []
 front_at xs i x is =
     let lt = slice_get_within xs i x (sym is) in
     take_more xs i [] lt ∙ ap (λ (y : List ℕ). take i xs ++ y ∷ []) (get_or_from_slice_get xs i x [] (sym is))

@@ -1,16 +1,16 @@
 -- Payloads that tell a configuration and records, before and after one is added.
 use Rattle.std.proofs.Common.{◌≡◌, ◌⊎◌, inl, inr, ℕ, Bool, true, false, List, [], ◌∷◌, ◌++◌, length, map, Some, None, refl, sym, ap, subst, ◌∙◌, append_assoc, arith}
-use Rattle.std.specs.Prelude.{slice_get}
+use Rattle.std.specs.Prelude.{Option, cond, slice_get}
 use Rattle.std.proofs.lemmas.Bool.{and_parts}
 use Rattle.std.proofs.lemmas.List.{append-nil}
-use Rattle.gate_journal.specs.Format.{Stands, StandsBeforeOrAfter}
+use Rattle.gate_journal.specs.Format.{Stands, StandsBeforeOrAfter, is_kept, kept}
 use Rattle.node_notes.specs.declared.config.Config.{Config}
 use Rattle.net_model.specs.declared.note.Note.{Note}
 use Rattle.node_notes.specs.Spelling.{note_payload, config_payload}
 use Rattle.node_notes.specs.Reading.{note_of}
 use Rattle.node_notes.specs.Forms.{is_config, keeps_form, may_follow, is_next}
 use Rattle.node_notes.specs.Tells.{AreInOrder, payloads_of, Tells}
-use Rattle.node_book.specs.Keeps.{Keeps, KeepsBeforeOrAfter}
+use Rattle.node_book.specs.Keeps.{Keeps, KeepsBeforeOrAfter, kept_notes}
 use Rattle.node_notes.proofs.Payloads.{note_again}
 use Rattle.node_notes.proofs.Shapes.{note_spells}
 
@@ -55,3 +55,12 @@ no_other config notes found payload fits keeps spelled breaks note next other =
 pub nil_from_none : {X : Type 0} (xs : List X) → None ≡ slice_get xs 0 → xs ≡ []
 nil_from_none [] is = refl
 nil_from_none (x ∷ xs) is = absurd (cc is)
+
+-- what a stop leaves
+pub kept_keeps : (payloads : List (List ℕ)) (config : Config) (notes : List Note) (note : Note) → Tells payloads config notes → is_next config notes note ≡ true
+    → (calls : Option ℕ) (fill : ℕ) (image : List ℕ) → Stands image (kept calls fill payloads (note_payload note)) → Keeps image config (kept_notes calls fill notes note)
+kept_keeps payloads config notes note tells next calls fill image = by (is_kept calls fill)
+  where
+    by : (b : Bool) → Stands image (cond b (payloads ++ note_payload note ∷ []) payloads) → Keeps image config (cond b (notes ++ note ∷ []) notes)
+    by true stands = record { payloads = payloads ++ note_payload note ∷ []; stands = stands; tells = tells_more payloads config notes note tells next }
+    by false stands = record { payloads = payloads; stands = stands; tells = tells }

@@ -1,6 +1,6 @@
 //! A note comes onto the disk.
 
-ghost use Rattle.std.specs.Prelude.{◌≡◌, ◌⊎◌, ◌↔◌, ◌+◌, ◌<◌, ◌≤◌, ◌^◌, true, false, [], ◌∷◌, ◌++◌, List, ℕ, length, IfOk, IfErr, IfSome, OnOk, OnErr, IsErrOf, Some, None};
+ghost use Rattle.std.specs.Prelude.{◌≡◌, ◌⊎◌, ◌↔◌, ◌+◌, ◌<◌, ◌≤◌, ◌^◌, true, false, [], ◌∷◌, ◌++◌, List, ℕ, length, min, not, nat_lt, ◌||◌, ◌-◌, IfOk, IfErr, IfSome, OnOk, OnErr, IsErrOf, Some, None};
 ghost use Rattle.std.specs.Option.{option_map};
 ghost use Rattle.voe_disk.specs.Disk.{Rose, counted};
 ghost use Rattle.voe_disk.specs.Failing.{passed};
@@ -10,6 +10,7 @@ ghost use Rattle.gate_journal.specs.Fault.{fault_of};
 ghost use Rattle.gate_journal.specs.Format.{front, kept, Stands, StandsBeforeOrAfter};
 ghost use Rattle.gate_journal.specs.Journal.{IsSound};
 ghost use Rattle.node_notes.specs.Forms.{is_next};
+ghost use Rattle.node_notes.specs.Held.{held as held_by, is_bringing as brings_any};
 ghost use Rattle.node_notes.specs.Spelling.{note_payload};
 ghost use Rattle.node_book.specs.Fault.{ComesFromDisk, book_fault};
 ghost use Rattle.node_book.specs.Keeps.{has_room as has_room_for};
@@ -80,23 +81,28 @@ pub fn append_note<D: Disk>(
     Ok(key)
 }
 
-// Whether the journal has room for a note's payload, and the book for the identifier that it brings.
+// Whether the journal has room for a note's payload, and the book for an identifier that it brings.
 fn has_room<D: Disk>(journal: &Journal<D>, records: &Records, note: &Note) -> bool
     requires told { IsTold journal.now.payloads records.now }
     requires next { is_next records.now.config records.now.notes.items note.now ≡ true }
     ensures { result ≡ has_room_for records.now.config records.now.notes.items note.now }
 {
-    if is_bringing(note) && records.held() >= MAX_IDENTIFIERS {
-        return false;
-    }
-    end_of(journal) + 6 + note_len(note) as u64 <= MAX_SIZE
+    end_with(journal, note_len(note)) <= MAX_SIZE && has_identifier(records, note)
 }
 
-// The place of a journal's closed gate.
-fn end_of<D: Disk>(journal: &Journal<D>) -> u64
-    requires { 1 ≤ length journal.now.payloads }
-    ensures place { result ≡ length (front journal.now.payloads) }
-    ensures small { result < 2 ^ 62 }
+// Whether the book has room for an identifier that a note brings.
+fn has_identifier(records: &Records, note: &Note) -> bool
+    requires { AreKept records.now }
+    ensures { result ≡ (not (brings_any note.now) || nat_lt (held_by records.now.notes.items) 65536) }
+{
+    !is_bringing(note) || records.held() < MAX_IDENTIFIERS
+}
+
+// Where a journal's closed gate would stand behind one payload more of this length, one past it, and at most 2^64 - 1.
+fn end_with<D: Disk>(journal: &Journal<D>, count: usize) -> u64
+    requires some { 1 ≤ length journal.now.payloads }
+    requires few { count ≤ 1100000 }
+    ensures { result ≡ min (length (front journal.now.payloads) + 6 + count) (2 ^ 64 - 1) }
 {
     let last = journal.payloads() - 1;
     let Some(place) = journal.place(last) else {
@@ -105,5 +111,6 @@ fn end_of<D: Disk>(journal: &Journal<D>) -> u64
     let Some(payload) = journal.payload(last) else {
         unreachable!()
     };
-    place + 5 + payload.len() as u64
+    let behind = 5 + payload.len() as u64 + 6 + count as u64;
+    place.saturating_add(behind)
 }

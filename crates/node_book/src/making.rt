@@ -66,8 +66,12 @@ fn empty_journal<D: Disk>(alloc: Global, disk: D) -> Result<Journal<D>, (D, Book
             }
             Err((journal.into_disk(), BookFault::AlreadyMade))
         }
-        Err((disk, JournalFault::Unmade)) => first_journal(alloc, disk),
-        Err((disk, fault)) => Err((disk, BookFault::from(fault))),
+        Err((disk, fault)) => {
+            if fault == JournalFault::Unmade {
+                return first_journal(alloc, disk);
+            }
+            Err((disk, BookFault::from(fault)))
+        }
     }
 }
 
@@ -77,7 +81,7 @@ fn first_journal<D: Disk>(alloc: Global, disk: D) -> Result<Journal<D>, (D, Book
     requires durable { IsDurable (D.reads disk) (D.may_leave disk) }
     ensures ok { IfOk result (λ journal. (journal.payloads ≡ []) × (journal.down ≡ None)) }
     ensures refused { IfErr result (λ e. IsMakeRefusal e.1 (D.reads disk)) }
-    ensures from_disk { IfErr result (λ e. IsMissing e.1 → ⊥) }
+    ensures reading_err { IfErr result (λ e. IsMissing e.1 → (D.reads e.0 ≡ D.reads disk) × IsDurable (D.reads e.0) (D.may_leave e.0) × LeavesOnly D.Disk disk e.0 (D.may_leave disk)) }
     ensures any_moment { IfOk result (λ journal. LeavesOnly D.Disk disk journal.disk IsFree) }
     ensures any_moment_err { IfErr result (λ e. LeavesOnly D.Disk disk e.0 IsFree) }
     ensures same_disk { IfOk result (λ journal. IsSameDisk D.Disk disk journal.disk × (D.faults journal.disk ≡ D.faults disk)) }
