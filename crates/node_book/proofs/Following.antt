@@ -1,5 +1,5 @@
 -- The edges after one of them has changed.
-use Rattle.std.proofs.Common.{◌≡◌, ◌⊎◌, inl, inr, ℕ, zero, suc, ◌+◌, ◌<◌, ◌≤◌, Bool, true, false, ◌&&◌, cond, eqb, ltb, List, [], ◌∷◌, ◌++◌, length, get_or, Option, Some, None, refl, sym, ap, subst, ◌∙◌, arith}
+use Rattle.std.proofs.Common.{◌≡◌, inl, inr, ℕ, zero, suc, ◌+◌, ◌<◌, ◌≤◌, Bool, true, false, ◌&&◌, cond, eqb, ltb, List, [], ◌∷◌, ◌++◌, length, get_or, Option, Some, None, refl, sym, ap, subst, ◌∙◌, arith}
 use Rattle.std.specs.Prelude.{slice_get, slice_set}
 use Rattle.std.specs.Option.{option_copied}
 use Rattle.std.proofs.Common.{Bor}
@@ -31,6 +31,7 @@ changed edges n new Q others own m e is = by (eqb m n) refl
       | inl same ↦ one_some new e n (slice_set edges n new) (get-set_same edges n new e (sym same ∙ here)) here
       | inr both ↦ one_some new e n (slice_set edges n new) both.1 here
     ]
+
     by : (b : Bool) → eqb m n ≡ b → Q m e
     by true same =
         let m_is : m ≡ n = eqb-true m n same in

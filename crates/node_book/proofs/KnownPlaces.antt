@@ -1,5 +1,5 @@
 -- The identifiers that notes bring, before and after a note is added.
-use Rattle.std.proofs.Common.{◌≡◌, ℕ, zero, suc, ◌+◌, Bool, true, false, ◌||◌, not, cond, List, [], ◌∷◌, ◌++◌, length, Option, Some, None, Result, Ok, Err, is_some, refl, sym, ap, ◌∙◌, arith}
+use Rattle.std.proofs.Common.{◌≡◌, ℕ, suc, ◌+◌, Bool, true, false, ◌||◌, not, cond, List, [], ◌∷◌, ◌++◌, length, Option, Some, None, Result, Ok, Err, is_some, refl, sym, ap, ◌∙◌, arith}
 use Rattle.std.specs.Prelude.{IsOk, OnOk, OnSome, slice_get}
 use Rattle.std.specs.Global.{Vec}
 use Rattle.std.specs.Map.{lookup}
@@ -15,7 +15,7 @@ use Rattle.net_model.specs.declared.note.Note.TheVariants.{Wrote, Acked, Refused
 use Rattle.net_model.specs.Notes.{brings, knows}
 use Rattle.node_notes.specs.declared.config.Config.{Config}
 use Rattle.node_notes.specs.Forms.{keeps_form, may_follow, is_next}
-use Rattle.node_notes.specs.Held.{is_bringing, held, identifier_in, packet_in, packet_held}
+use Rattle.node_notes.specs.Held.{is_bringing, held, identifier_in, packet_held}
 use Rattle.node_book.specs.Index.{entry_of, brought_from, brought_by, plain, found_in}
 use Rattle.node_book.specs.declared.known.Entry.{Entry}
 

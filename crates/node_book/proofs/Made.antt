@@ -1,5 +1,5 @@
 -- The making of a book, from call to call.
-use Rattle.std.proofs.Common.{◌≡◌, ◌⊎◌, inl, inr, true, ℕ, ◌<◌, ◌≤◌, ◌+◌, List, [], ◌∷◌, ◌++◌, length, Some, None, Result, Ok, Err, refl, sym, ap, subst, ◌∙◌, arith}
+use Rattle.std.proofs.Common.{◌≡◌, inl, inr, true, ℕ, List, [], ◌∷◌, ◌++◌, length, Some, None, Result, Ok, Err, refl, sym, ap, subst, ◌∙◌}
 use Rattle.std.specs.Prelude.{Option, IfSome, IfErr}
 use Rattle.voe_disk.specs.Disk.{IsDurable}
 use Rattle.voe_disk.specs.Runs.{LeavesOnly, Moments, started, joined, at_last}
@@ -14,12 +14,8 @@ use Rattle.gate_journal.proofs.Told.{some_has}
 use Rattle.node_notes.specs.declared.config.Config.{Config}
 use Rattle.node_notes.specs.Forms.{is_config}
 use Rattle.node_notes.specs.Spelling.{config_payload}
-use Rattle.node_notes.specs.Tells.{Tells}
-use Rattle.node_book.specs.declared.fault.BookFault.{BookFault}
-use Rattle.node_book.specs.declared.fault.BookFault.TheVariants.{Unmade, NotJournal, Damaged, Full, AlreadyMade, DiskFault, Stopped, NoMemory, BadNote}
 use Rattle.node_book.specs.Fault.{ComesFromDisk, IsMissing, book_fault}
-use Rattle.node_book.specs.Keeps.{Keeps}
-use Rattle.node_book.specs.Making.{HasPayload, IsFree, IsMakeRefusal, IsOnTheWay, IsMaking, IsMakingSoFar}
+use Rattle.node_book.specs.Making.{HasPayload, IsFree, IsMakeRefusal, IsOnTheWay, IsMaking}
 
 pub if_err_map : {T E : Type 0} (r : Result T E) (P Q : E → Type 0) → ((e : E) → P e → Q e) → IfErr r P → IfErr r Q
 if_err_map (Ok x) P Q so holds = tt

@@ -1,5 +1,5 @@
 -- The places of what is open, before and after a record is added.
-use Rattle.std.proofs.Common.{◌≡◌, ◌⊎◌, inl, inr, ℕ, zero, suc, ◌+◌, Bool, true, false, ◌&&◌, ◌||◌, not, cond, eqb, List, [], ◌∷◌, ◌++◌, length, filter, Some, None, refl, sym, ap, subst, ◌∙◌, append_assoc, arith}
+use Rattle.std.proofs.Common.{◌≡◌, ℕ, zero, suc, ◌+◌, Bool, true, false, ◌&&◌, ◌||◌, not, cond, eqb, List, [], ◌∷◌, ◌++◌, length, filter, Some, refl, sym, ap, subst, ◌∙◌, append_assoc, arith}
 use Rattle.std.specs.Prelude.{slice_get}
 use Rattle.std.specs.List.{list_any}
 use Rattle.std.specs.Str.{bytes_eq}
@@ -126,6 +126,7 @@ open_unmoved notes n number silent =
         let j = identifier_in m in
         let quiet = silent j (knows_at notes k m j found (brings_own number m is)) in
         is_open_more notes n number j quiet.0 ∙ ap (λ (b : Bool). is_open notes number j && not b) quiet.1 ∙ and_true (is_open notes number j)
+
     same : (k : ℕ) (m : Note) → slice_get notes k ≡ Some m → is_open_note (notes ++ n ∷ []) number m ≡ is_open_note notes number m
     same k m found = by_hand m (hands number m) refl k found
 
@@ -142,6 +143,7 @@ later_not config before (m ∷ notes) i order known zero n is =
     by_bytes own true is free =
         let clash = sym free ∙ ap (λ (x : List ℕ). not (knows before x)) (sym (same_bytes i own is)) ∙ ap not known in
         absurd (cc clash)
+
     new : (m : Note) → may_follow before m ≡ true → brings i m ≡ false
     new (Wrote own packet) free = by_bytes own (bytes_eq i own) refl free
     new (Accept own links packet) free = by_bytes own (bytes_eq i own) refl free
@@ -193,6 +195,7 @@ same_place config notes i p b order at_p says number k m at_k hands_on false is 
     own_is (Acked line own) hand one = absurd (cc hand)
     own_is (Refused line own) hand one = absurd (cc hand)
     own_is (Done link own) hand one = absurd (cc hand)
+
     by : (d : Bool) → eqb k p ≡ d → false ≡ eqb k p
     by false e = sym e
     by true e =
@@ -222,6 +225,7 @@ open_answered config notes n number i p b order at_p says answers quiet =
         let at : 0 + k ≡ k = omega arith in
         let place = same_place config notes i p b order at_p says number k m found is (bytes_eq j i) refl in
         is_open_more notes n number j (answers j).0 ∙ ap (λ (x : Bool). is_open notes number j && not x) ((answers j).1 ∙ place ∙ ap (λ (x : ℕ). eqb x p) (sym at))
+
     same : (k : ℕ) (m : Note) → slice_get notes k ≡ Some m → is_open_note (notes ++ n ∷ []) number m ≡ (is_open_note notes number m && not (eqb (0 + k) p))
     same k m found = by_hand m (hands number m) refl k found
 

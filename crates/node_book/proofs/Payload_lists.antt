@@ -1,15 +1,12 @@
 -- The payloads of a journal, one after the other.
-use Rattle.std.proofs.Common.{◌≡◌, ℕ, ◌+◌, ◌<◌, ◌≤◌, true, inl, inr, List, [], ◌∷◌, ◌++◌, length, get_or, take, drop, Some, None, refl, sym, ap, subst, ◌∙◌, arith, take-append-drop}
+use Rattle.std.proofs.Common.{◌≡◌, ℕ, ◌+◌, ◌<◌, List, [], ◌∷◌, ◌++◌, length, take, drop, Some, None, sym, ap, subst, ◌∙◌, take-append-drop}
 use Rattle.std.specs.Prelude.{slice_get}
 use Rattle.std.proofs.lemmas.List.{take_more, drop_more}
 use Rattle.std.proofs.lemmas.Option.{slice_get_within, get_or_from_slice_get, slice_get-get_or}
-use Rattle.gate_journal.specs.Format.{front}
 use Rattle.net_model.specs.declared.note.Note.{Note}
 use Rattle.node_book.specs.declared.records.Records.{Records}
 use Rattle.node_notes.specs.Spelling.{note_payload}
-use Rattle.node_notes.specs.Forms.{is_next}
 use Rattle.node_notes.specs.Tells.{Tells}
-use Rattle.node_book.specs.Reading.{HasBadAt}
 use Rattle.node_book.specs.Records.{Grew}
 use Rattle.node_book.proofs.Telling.{tells_more}
 

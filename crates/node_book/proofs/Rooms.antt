@@ -1,6 +1,6 @@
 -- Whether there is room, by the length that the journal would have.
-use Rattle.std.proofs.Common.{◌≡◌, ℕ, ◌+◌, ◌-◌, ◌^◌, ◌<◌, ◌≤◌, Bool, true, false, ◌&&◌, ◌||◌, not, List, [], ◌∷◌, length, Err, refl, sym, ap, ◌∙◌, arith}
-use Rattle.std.specs.Prelude.{min, nat_le, nat_lt}
+use Rattle.std.proofs.Common.{◌≡◌, ℕ, ◌+◌, ◌-◌, ◌^◌, ◌<◌, ◌≤◌, Bool, true, false, ◌&&◌, ◌||◌, not, List, length, refl, sym, ap, ◌∙◌, arith}
+use Rattle.std.specs.Prelude.{min, nat_lt}
 use Rattle.std.proofs.lemmas.Bool.{leb-true, le-leb, lt-leb, and_parts}
 use Rattle.gate_journal.specs.Format.{front}
 use Rattle.gate_journal.specs.declared.fault.JournalFault.{JournalFault}
@@ -10,8 +10,7 @@ use Rattle.node_notes.specs.declared.config.Config.{Config}
 use Rattle.node_notes.specs.Held.{is_bringing, held}
 use Rattle.node_notes.specs.Spelling.{note_payload}
 use Rattle.node_notes.specs.Tells.{payloads_of}
-use Rattle.node_book.specs.declared.fault.BookFault.{BookFault}
-use Rattle.node_book.specs.declared.fault.BookFault.TheVariants.{Unmade, NotJournal, Damaged, Full, AlreadyMade, DiskFault, Stopped, NoMemory, BadNote}
+use Rattle.node_book.specs.declared.fault.BookFault.TheVariants.{Full}
 use Rattle.node_book.specs.Fault.{book_fault}
 use Rattle.node_book.specs.Keeps.{has_room}
 

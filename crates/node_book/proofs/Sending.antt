@@ -1,22 +1,21 @@
 -- What is sent over an edge, by the places of what is open on it.
-use Rattle.std.proofs.Common.{◌≡◌, ◌⊎◌, inl, inr, ℕ, zero, suc, ◌+◌, ◌<◌, ◌≤◌, Bool, true, false, ◌&&◌, ◌||◌, not, cond, eqb, ltb, List, [], ◌∷◌, ◌++◌, length, Option, Some, None, is_some, refl, sym, ap, subst, ◌∙◌, arith}
+use Rattle.std.proofs.Common.{◌≡◌, ℕ, zero, suc, ◌+◌, ◌<◌, ◌≤◌, Bool, true, false, ◌&&◌, ◌||◌, cond, eqb, List, [], ◌∷◌, ◌++◌, length, Option, Some, None, is_some, refl, sym, ap, ◌∙◌, arith}
 use Rattle.std.specs.Prelude.{slice_get, nat_lt, nat_le}
-use Rattle.std.specs.Option.{option_map}
 use Rattle.std.specs.List.{find, list_any}
 use Rattle.std.specs.Str.{bytes_eq}
-use Rattle.std.proofs.lemmas.Bool.{and_parts, cases_lt, leb-true, ltb-true, ltb-false, lt-ltb, le-ltb, le-leb, lt-leb, eqb-true, eq-eqb}
+use Rattle.std.proofs.lemmas.Bool.{and_parts, ltb-true, ltb-false, le-leb, lt-leb, eqb-true, eq-eqb}
 use Rattle.std.proofs.lemmas.List.Recursion.{is_count_by}
 use Rattle.net_model.specs.declared.note.Note.{Note}
 use Rattle.net_model.specs.declared.note.Note.TheVariants.{Wrote, Acked, Refused, Accept, Done, Enter}
-use Rattle.net_model.specs.Notes.{Offer, Placed, brings, knows, lists, offers, is_answer, is_open, offer, to_send, or_later, first_from}
+use Rattle.net_model.specs.Notes.{Offer, Placed, brings, lists, offers, is_open, offer, to_send, or_later, first_from}
 use Rattle.voe_values.specs.declared.kind.NodeKind.TheVariants.{Author, Broker, Subscriber}
 use Rattle.node_notes.specs.declared.config.Config.{Config}
-use Rattle.node_notes.specs.Forms.{are_rising, is_author, is_broker, is_subscriber, is_identifier, is_packet, keeps_form, may_follow, is_next}
+use Rattle.node_notes.specs.Forms.{are_rising, is_author, is_broker, is_identifier, is_packet, keeps_form, may_follow}
 use Rattle.node_notes.specs.Held.{identifier_in, packet_in}
 use Rattle.node_notes.specs.Open.{count_open, place_of}
 use Rattle.node_notes.specs.Tells.{AreInOrder}
 use Rattle.node_book.specs.Index.{hands, is_open_note, open_from, open_places, IsRisingFrom}
-use Rattle.node_book.proofs.NextOpen.{places_rise, open_rising}
+use Rattle.node_book.proofs.NextOpen.{open_rising}
 use Rattle.node_book.proofs.OpenPlaces.{brought_once, offered_brings, same_bytes}
 
 -- what a note sends, by whether it is open
@@ -219,9 +218,11 @@ open_by_note config notes number i p b order at_p says = by (is_open notes numbe
   where
     named : i ≡ identifier_in b
     named = brings_named i b says
+
     neither : (x y : Bool) → y ≡ false → (x && y) ≡ false
     neither true y is = is
     neither false y is = refl
+
     by : (c : Bool) → is_open notes number i ≡ c → (hands number b && is_open notes number (identifier_in b)) ≡ is_open notes number i
     by true e = ap (λ (x : Bool). x && is_open notes number (identifier_in b)) (handed_over config notes number i p b order at_p says e) ∙ ap (is_open notes number) (sym named)
     by false e = neither (hands number b) (is_open notes number (identifier_in b)) (ap (is_open notes number) (sym named) ∙ e) ∙ sym e

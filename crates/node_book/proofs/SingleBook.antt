@@ -1,8 +1,7 @@
 -- A file keeps one configuration and one list of records, or is refused for one cause.
-use Rattle.std.proofs.Common.{◌≡◌, ◌⊎◌, inl, inr, ℕ, Bool, true, false, List, [], ◌∷◌, ◌++◌, map, Some, None, refl, sym, ap, subst, ◌∙◌, append_assoc}
+use Rattle.std.proofs.Common.{◌≡◌, inl, inr, ℕ, true, List, [], ◌∷◌, ◌++◌, map, Some, refl, sym, ap, subst, ◌∙◌, append_assoc}
 use Rattle.std.proofs.lemmas.Bool.{and_parts}
 use Rattle.std.proofs.lemmas.List.{append-nil}
-use Rattle.gate_journal.specs.Format.{Stands}
 use Rattle.gate_journal.specs.declared.fault.JournalFault.TheVariants as journal
 use Rattle.gate_journal.proofs.OneReading.{one_list, not_refused}
 use Rattle.node_notes.specs.declared.config.Config.{Config}
@@ -12,7 +11,7 @@ use Rattle.node_book.specs.declared.fault.BookFault.TheVariants.{Unmade, NotJour
 use Rattle.node_notes.specs.Spelling.{note_payload, config_payload}
 use Rattle.node_notes.specs.Reading.{config_of}
 use Rattle.node_notes.specs.Forms.{is_config, keeps_form, may_follow, is_next}
-use Rattle.node_notes.specs.Tells.{AreInOrder, payloads_of, Tells}
+use Rattle.node_notes.specs.Tells.{AreInOrder, Tells}
 use Rattle.node_book.specs.Keeps.{Keeps}
 use Rattle.node_book.specs.Reading.{IsRefusal}
 use Rattle.node_book.specs.Fault.{ComesFromDisk}

@@ -1,5 +1,5 @@
 -- Payloads that tell a configuration and records, before and after one is added.
-use Rattle.std.proofs.Common.{◌≡◌, ◌⊎◌, inl, inr, ℕ, Bool, true, false, List, [], ◌∷◌, ◌++◌, length, map, Some, None, refl, sym, ap, subst, ◌∙◌, append_assoc, arith}
+use Rattle.std.proofs.Common.{◌≡◌, inl, inr, ℕ, Bool, true, false, List, [], ◌∷◌, ◌++◌, map, None, refl, sym, ap, subst, ◌∙◌, append_assoc}
 use Rattle.std.specs.Prelude.{Option, cond, slice_get}
 use Rattle.std.proofs.lemmas.Bool.{and_parts}
 use Rattle.std.proofs.lemmas.List.{append-nil}
@@ -9,7 +9,7 @@ use Rattle.net_model.specs.declared.note.Note.{Note}
 use Rattle.node_notes.specs.Spelling.{note_payload, config_payload}
 use Rattle.node_notes.specs.Reading.{note_of}
 use Rattle.node_notes.specs.Forms.{is_config, keeps_form, may_follow, is_next}
-use Rattle.node_notes.specs.Tells.{AreInOrder, payloads_of, Tells}
+use Rattle.node_notes.specs.Tells.{AreInOrder, Tells}
 use Rattle.node_book.specs.Keeps.{Keeps, KeepsBeforeOrAfter, kept_notes}
 use Rattle.node_notes.proofs.Payloads.{note_again}
 use Rattle.node_notes.proofs.Shapes.{note_spells}

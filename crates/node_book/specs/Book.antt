@@ -1,5 +1,5 @@
 -- What a book keeps.
-use Rattle.std.specs.Prelude.{◌≡◌, ℕ, List, [], Option, None}
+use Rattle.std.specs.Prelude.{◌≡◌, List, Option, None}
 use Rattle.gate_journal.specs.Format.{StandsBeyond}
 use Rattle.gate_journal.specs.Journal.{EachFile}
 use Rattle.voe_disk.specs.declared.disk.Disk.{Ghosts}

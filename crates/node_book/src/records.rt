@@ -170,13 +170,16 @@ impl Records {
             Note::Accept { .. } => self.index.bring(&self.notes, note, key),
             Note::Enter { .. } => self.index.bring(&self.notes, note, key),
             Note::Acked { line, identifier } => {
-                self.index.answer(&self.notes, *line, identifier.as_slice(), note)
+                self.index
+                    .answer(&self.notes, *line, identifier.as_slice(), note)
             }
             Note::Refused { line, identifier } => {
-                self.index.answer(&self.notes, *line, identifier.as_slice(), note)
+                self.index
+                    .answer(&self.notes, *line, identifier.as_slice(), note)
             }
             Note::Done { link, identifier } => {
-                self.index.answer(&self.notes, *link, identifier.as_slice(), note)
+                self.index
+                    .answer(&self.notes, *link, identifier.as_slice(), note)
             }
         }
     }

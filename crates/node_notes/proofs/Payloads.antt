@@ -1,5 +1,5 @@
 -- The two laws of payloads: what is read is spelled so, and what is spelled so is read.
-use Rattle.std.proofs.Common.{◌≡◌, ◌⊎◌, inl, inr, ℕ, ◌+◌, ◌^◌, ◌<◌, Bool, true, false, cond, eqb, List, [], ◌∷◌, ◌++◌, length, Option, Some, None, refl, sym, ap, subst, ◌∙◌, append_assoc, arith}
+use Rattle.std.proofs.Common.{◌≡◌, ◌⊎◌, inl, inr, ℕ, Bool, true, false, cond, eqb, List, [], ◌∷◌, ◌++◌, length, Some, None, refl, sym, ap, subst, ◌∙◌, arith}
 use Rattle.std.specs.List.{AllByRecursion}
 use Rattle.std.proofs.lemmas.Bool.{eqb-true}
 use Rattle.std.proofs.lemmas.List.{append-nil, nil_from_length}
@@ -9,7 +9,7 @@ use Rattle.voe_values.specs.declared.kind.NodeKind.{NodeKind}
 use Rattle.voe_values.specs.declared.kind.NodeKind.TheVariants.{Author, Broker, Subscriber}
 use Rattle.net_model.specs.declared.note.Note.{Note}
 use Rattle.net_model.specs.declared.note.Note.TheVariants.{Wrote, Acked, Refused, Accept, Done, Enter}
-use Rattle.node_notes.specs.Spelling.{number, name, packet, counted, brought, answered, accepted, note_payload, kind_byte, link_text, config_payload, IsShort, IsNumber, IsLong, IsLinkText, HasSpelling, IsConfigText}
+use Rattle.node_notes.specs.Spelling.{number, name, packet, counted, brought, answered, accepted, note_payload, kind_byte, link_text, config_payload, IsShort, IsNumber, IsLong, HasSpelling}
 use Rattle.node_notes.specs.Reading.{◌>>=◌, Field, byte_at, number_at, name_at, end_name_at, filter_at, packet_at, counted_at, brought_at, answered_at, accepted_at, note_behind, whole, note_of, kind_of, kind_at, link_at, config_at, config_of}
 use Rattle.node_notes.proofs.Fields.{IsBytes, IsBytes-rest, IsField, Takes, bind_some, guard_ended, some_is, number_field, name_field, tested_field, packet_field}
 use Rattle.node_notes.proofs.Texts.{name_small, filter_small}

@@ -1,5 +1,5 @@
 -- A payload that is refused is none that keeps to its form.
-use Rattle.std.proofs.Common.{◌≡◌, ℕ, Bool, true, false, List, Some, None, Result, Err, sym, ap, ◌∙◌}
+use Rattle.std.proofs.Common.{◌≡◌, ℕ, true, false, List, Some, Result, Err, sym, ap, ◌∙◌}
 use Rattle.node_notes.specs.declared.config.Config.{Config}
 use Rattle.net_model.specs.declared.note.Note.{Note}
 use Rattle.node_notes.specs.declared.fault.ReadFault.{ReadFault}

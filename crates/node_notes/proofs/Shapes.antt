@@ -1,13 +1,12 @@
 -- What keeps to its form has a spelling, of a length that a journal takes.
-use Rattle.std.proofs.Common.{◌≡◌, ℕ, ◌+◌, ◌*◌, ◌^◌, ◌<◌, ◌≤◌, Bool, true, false, ◌&&◌, ltb, List, [], ◌∷◌, ◌++◌, length, refl, sym, ap, ◌∙◌, arith, length-append}
+use Rattle.std.proofs.Common.{◌≡◌, ℕ, ◌+◌, ◌*◌, ◌<◌, ◌≤◌, Bool, true, ◌&&◌, ltb, List, [], ◌∷◌, ◌++◌, length, refl, arith, length-append}
 use Rattle.std.specs.List.{list_all, flat_map, AllByRecursion}
 use Rattle.std.proofs.lemmas.Bool.{leb-true, ltb-true, and_parts}
-use Rattle.std.proofs.lemmas.List.Concat.{flat_map-cons}
 use Rattle.node_notes.specs.declared.config.Config.{Config}
 use Rattle.node_notes.specs.declared.config.LinkConfig.{LinkConfig}
 use Rattle.net_model.specs.declared.note.Note.{Note}
 use Rattle.net_model.specs.declared.note.Note.TheVariants.{Wrote, Acked, Refused, Accept, Done, Enter}
-use Rattle.node_notes.specs.Spelling.{number, name, packet, counted, brought, answered, accepted, note_payload, link_text, config_payload, IsShort, IsNumber, IsLong, IsFew, IsLinkText, HasSpelling, IsConfigText}
+use Rattle.node_notes.specs.Spelling.{number, name, packet, counted, brought, answered, accepted, note_payload, link_text, config_payload, IsShort, IsNumber, IsLinkText, HasSpelling, IsConfigText}
 use Rattle.node_notes.specs.Forms.{is_name, is_identifier, is_filter, is_packet, are_rising, is_author, is_broker, is_subscriber, is_link, is_config, keeps_form}
 use Rattle.node_notes.proofs.Texts.{name_small, identifier_small, filter_small, packet_small}
 use Rattle.node_notes.proofs.Payloads.{LinkFits, ConfigFits}

@@ -133,11 +133,7 @@ fn take_packet(alloc: Global, bytes: &[u8]) -> Result<(Bytes, &[u8]), ReadFault>
     Ok((Bytes::of(alloc, packet)?, rest))
 }
 
-fn take_numbers(
-    alloc: Global,
-    count: u8,
-    bytes: &[u8],
-) -> Result<(Listing<u16>, &[u8]), ReadFault>
+fn take_numbers(alloc: Global, count: u8, bytes: &[u8]) -> Result<(Listing<u16>, &[u8]), ReadFault>
     ensures { Gives (λ x. (x.0, x.1.now)) result (many_at number_at count bytes.now) }
 {
     let mut numbers = Listing::new(alloc);
@@ -151,10 +147,7 @@ fn take_numbers(
 }
 
 #[tactic(auto, unfolding(crate::specs::Reading::brought_at))]
-fn take_brought(
-    alloc: Global,
-    bytes: &[u8],
-) -> Result<((Bytes, Bytes), &[u8]), ReadFault>
+fn take_brought(alloc: Global, bytes: &[u8]) -> Result<((Bytes, Bytes), &[u8]), ReadFault>
     ensures { Gives (λ x. (x.0, x.1.now)) result (brought_at bytes.now) }
 {
     let (identifier, rest) = take_name(alloc, bytes)?;
@@ -251,11 +244,7 @@ fn take_kind(bytes: &[u8]) -> Result<(NodeKind, &[u8]), ReadFault>
     }
 }
 
-fn take_filters(
-    alloc: Global,
-    count: u8,
-    bytes: &[u8],
-) -> Result<(Listing<Text>, &[u8]), ReadFault>
+fn take_filters(alloc: Global, count: u8, bytes: &[u8]) -> Result<(Listing<Text>, &[u8]), ReadFault>
     ensures { Gives (λ x. (x.0, x.1.now)) result (many_at filter_at count bytes.now) }
 {
     let mut filters = Listing::new(alloc);

@@ -1,12 +1,10 @@
-use Rattle.std.proofs.Common.{◌≡◌, ◌∙◌, true, false, Err, length, sym, ap, arith}
+use Rattle.std.proofs.Common.{◌≡◌, ◌∙◌, true, Err, length, sym, ap, arith}
 use Rattle.std.proofs.lemmas.Bool.{and_parts}
 use Rattle.std.proofs.lemmas.Result.{err_from_is_err_and}
 use Rattle.gate_journal.specs.declared.fault.JournalFault.{JournalFault}
-use Rattle.gate_journal.specs.declared.fault.JournalFault.TheVariants as journal
 use Rattle.node_notes.specs.Forms.{keeps_form, may_follow}
 use Rattle.node_notes.specs.Spelling.{note_payload}
 use Rattle.node_notes.proofs.Shapes.{note_spells, note_small}
-use Rattle.node_book.specs.declared.fault.BookFault.{BookFault}
 use Rattle.node_book.specs.declared.fault.BookFault.TheVariants.{Full}
 use Rattle.node_book.specs.Keeps.{has_room}
 use Rattle.node_book.proofs.Rooms.{journal_fits, was_full}
@@ -31,10 +29,11 @@ returns-in_err-append-clause-full g c =
     let note = c.args.note.now in
     let room : has_room config notes note ≡ true = cc in
     let is : c.deref.result.now ≡ note_payload note = c.deref.ensures.value ∙ c.in_ok-payload.ensures in
-    let p = err_from_is_err_and c.from_residual-in_err-append.result c.from_residual-in_err-append.ensures.1 in
-    ((λ full.
-    let same : p.0 ≡ Full = (let both = sym p.1 ∙ full in cc) in
-    let fault = was_full c.in_err-append.field-0.0 (sym p.2 ∙ same) in
-    let over = c.append.ensures.full.0 (c.in_err-append.was ∙ ap (λ (f : JournalFault). Err f) fault) in
-    absurd (journal_fits config notes note c.args.journal.now.payloads c.deref.result.now c.requires.told.tells.payloads_are is room over.1)),
-    (λ lacks. absurd (let both = sym room ∙ lacks.1 in cc)))
+    let p = err_from_is_err_and c.from_residual-in_err-append.result c.from_residual-in_err-append.ensures.1 in (
+      (λ full.
+          let same : p.0 ≡ Full = (let both = sym p.1 ∙ full in cc) in
+          let fault = was_full c.in_err-append.field-0.0 (sym p.2 ∙ same) in
+          let over = c.append.ensures.full.0 (c.in_err-append.was ∙ ap (λ (f : JournalFault). Err f) fault) in
+          absurd (journal_fits config notes note c.args.journal.now.payloads c.deref.result.now c.requires.told.tells.payloads_are is room over.1)),
+      (λ lacks. absurd (let both = sym room ∙ lacks.1 in cc)),
+    )

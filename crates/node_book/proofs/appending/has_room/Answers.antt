@@ -1,4 +1,4 @@
-use Rattle.std.proofs.Common.{◌≡◌, ◌∙◌, ◌<◌, sym, ap, arith}
+use Rattle.std.proofs.Common.{◌∙◌, sym, arith}
 use Rattle.std.proofs.lemmas.Bool.{and_parts, lt-leb}
 use Rattle.node_notes.specs.Forms.{keeps_form, may_follow}
 use Rattle.node_notes.proofs.Shapes.{note_spells, note_small}

@@ -1,6 +1,6 @@
-use Rattle.std.proofs.Common.{◌≡◌, ◌∙◌, inl, inr, ℕ, List, Err, [], length, sym, ap, subst, arith}
+use Rattle.std.proofs.Common.{◌≡◌, ◌∙◌, inl, inr, ℕ, List, Err, length, sym, ap, subst, arith}
 use Rattle.voe_disk.specs.Runs.{Moments, LeavesOnly}
-use Rattle.gate_journal.specs.Format.{front, StandsBeforeOrAfter}
+use Rattle.gate_journal.specs.Format.{front}
 use Rattle.gate_journal.specs.declared.fault.JournalFault.{JournalFault}
 use Rattle.gate_journal.proofs.Split.{length-front_nil}
 use Rattle.node_notes.specs.Spelling.{config_payload}

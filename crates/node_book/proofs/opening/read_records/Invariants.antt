@@ -1,4 +1,4 @@
-use Rattle.std.proofs.Common.{◌≡◌, ◌<◌, ◌≤◌, take, length}
+use Rattle.std.proofs.Common.{◌≤◌, take, length}
 use Rattle.node_notes.specs.Tells.{Tells}
 use Rattle.node_book.specs.Records.{AreKept}
 use Rattle.node_book.proofs.opening.read_records.Given as goal

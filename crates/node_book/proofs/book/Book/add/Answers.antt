@@ -1,4 +1,4 @@
-use Rattle.std.proofs.Common.{◌≡◌, ◌<◌, ◌++◌, [], ◌∷◌, true, Some, None, Ok, Err, List, ℕ, sym, ap, subst, ◌∙◌}
+use Rattle.std.proofs.Common.{◌≡◌, ◌<◌, true, Some, None, Err, List, ℕ, sym, ap, subst, ◌∙◌}
 use Rattle.voe_disk.specs.Runs.{LeavesOnly}
 use Rattle.gate_journal.specs.Fault.{fault_of}
 use Rattle.node_book.specs.declared.fault.BookFault.{BookFault}
@@ -54,6 +54,6 @@ returns-in-Err-clause-stopped_image g c is =
     let d = g.D.Disk in
     let inside = c.self.inside in
     let P : BookView _ → Type 0 = λ v. is_next v.config v.notes c.args.note ≡ true → v.down ≡ None → (fill : ℕ) (image : List ℕ) → d.crash_image c.append_note.new.journal.disk fill ≡ Some image
-        → Keeps image v.config (kept_notes (d.arming v.disk).calls fill v.notes c.args.note) in
+    → Keeps image v.config (kept_notes (d.arming v.disk).calls fill v.notes c.args.note) in
     subst P c.self.view_is (λ next up fill image left.
     kept_keeps inside.journal.payloads inside.records.config inside.records.notes.items c.args.note c.self.invariant.tells next (d.arming inside.journal.disk).calls fill image (c.in-Err.ensures.stopped_image (λ i. Err (is i)) up fill image left)) c.requires

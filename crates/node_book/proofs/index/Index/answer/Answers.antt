@@ -1,5 +1,5 @@
-use Rattle.std.proofs.Common.{◌≡◌, ◌∙◌, ◌++◌, ◌∷◌, [], cond, eqb, filter, not, ap, sym, subst, ℕ, Bool, List, Option, Some, is_some, length, arith}
-use Rattle.node_book.specs.Index.{found_in, brought_by, open_places, IsRisingFrom}
+use Rattle.std.proofs.Common.{◌∙◌, ◌++◌, ◌∷◌, [], cond, eqb, filter, not, ap, sym, subst, ℕ, List, Option, is_some, arith}
+use Rattle.node_book.specs.Index.{found_in, open_places, IsRisingFrom}
 use Rattle.node_book.specs.declared.known.Entry.{Entry}
 use Rattle.node_book.proofs.KnownPlaces.{brought_same, entry_found, known_found}
 use Rattle.node_book.proofs.NextOpen.{places_rise}

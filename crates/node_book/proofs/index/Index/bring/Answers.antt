@@ -1,8 +1,6 @@
-use Rattle.std.proofs.Common.{◌≡◌, ◌∙◌, ◌++◌, ◌∷◌, [], cond, ap, sym, ℕ, Bool, List, length}
+use Rattle.std.proofs.Common.{◌∙◌, ◌++◌, ◌∷◌, [], cond, ap, sym, length}
 use Rattle.sha1.specs.Sha1.{sha1}
-use Rattle.node_notes.specs.Held.{identifier_in}
-use Rattle.node_book.specs.Index.{found_in, entry_of, hands, open_places}
-use Rattle.node_book.specs.declared.known.Entry.{Entry}
+use Rattle.node_book.specs.Index.{found_in, hands, open_places}
 use Rattle.node_book.proofs.KnownPlaces.{brought_more, not_found}
 use Rattle.node_book.proofs.OpenPlaces.{open_brought}
 use Rattle.node_book.proofs.Following.{follow_same}

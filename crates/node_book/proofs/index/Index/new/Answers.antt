@@ -1,4 +1,4 @@
-use Rattle.std.proofs.Common.{◌≡◌, ◌∙◌, [], ℕ, List, sym, refl}
+use Rattle.std.proofs.Common.{[], refl}
 use Rattle.node_book.specs.Index.{brought_by, open_places}
 use Rattle.node_book.proofs.Following.{follow_same}
 use Rattle.node_book.proofs.index.Index.new.Goals as goal

@@ -1,4 +1,4 @@
-use Rattle.std.proofs.Common.{◌≡◌, ◌∙◌, ap, ℕ, List}
+use Rattle.std.proofs.Common.{◌∙◌, ap}
 use Rattle.node_book.specs.Index.{plain, open_places}
 use Rattle.node_book.proofs.index.Index.reserve.Goals as goal
 

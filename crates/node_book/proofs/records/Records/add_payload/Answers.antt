@@ -1,4 +1,4 @@
-use Rattle.std.proofs.Common.{◌≡◌, true, false}
+use Rattle.std.proofs.Common.{◌≡◌, false}
 use Rattle.node_notes.specs.Forms.{may_follow}
 use Rattle.node_book.proofs.Telling.{no_other}
 use Rattle.node_book.proofs.records.Records.add_payload.Goals as goal

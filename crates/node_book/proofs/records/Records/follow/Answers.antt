@@ -1,4 +1,4 @@
-use Rattle.std.proofs.Common.{◌≡◌, ◌∙◌, ◌<◌, ℕ, List, sym, subst, length}
+use Rattle.std.proofs.Common.{List, sym, subst, length}
 use Rattle.std.proofs.lemmas.Bool.{and_parts}
 use Rattle.net_model.specs.declared.note.Note.{Note}
 use Rattle.node_notes.specs.Forms.{keeps_form, may_follow}

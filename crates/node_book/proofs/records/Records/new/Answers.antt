@@ -1,4 +1,4 @@
-use Rattle.std.proofs.Common.{◌≡◌, ◌∙◌, ℕ, List, [], sym, subst, length, rules}
+use Rattle.std.proofs.Common.{◌≡◌, ℕ, List, [], sym, subst, length, rules}
 use Rattle.net_model.specs.declared.note.Note.{Note}
 use Rattle.node_notes.specs.Tells.{AreInOrder}
 use Rattle.node_book.specs.Index.{IsIndexOf}
