@@ -7,10 +7,11 @@ use Rattle.voe_outside.specs.Whole.{Gave}
 use Rattle.voe_outside.specs.declared.whole.TheConstants.{BUFFER}
 use Rattle.voe_scenario.specs.Scenarios.{scenario_of}
 use Rattle.voevent_cli.specs.declared.command.Command.{Command}
+use Rattle.voevent_cli.specs.declared.outcome.Outcome.{Outcome}
 use Rattle.voevent_cli.specs.declared.outcome.Status.{Status}
 use Rattle.voevent_cli.specs.declared.outcome.Status.TheVariants.{Done, Usage, Refused, ReadFault, WriteFault, NoMemory}
 use Rattle.voevent_cli.specs.Safety.{IsSafeThroughout}
-use Rattle.voevent_cli.specs.Wanted.{code_of, command_of, limit_of, wanted}
+use Rattle.voevent_cli.specs.Wanted.{Wanted, code_of, command_of, limit_of}
 
 -- A source and a sink at one moment: what is left and what is held, where they tell it, and how often each has failed.
 pub record Moment : Type 0 where
@@ -41,15 +42,19 @@ IsWithin (Some command) taken = length taken ≤ limit_of command
 -- the status is the wanted one, and the wanted bytes stand behind what the sink held
 pub record Answered (words : List (List ℕ)) (taken : List ℕ) (before now : Moment) (status : Status) : Type 0 where
   pub read : HasRead (command_of words) taken now.left
-  pub wanted_status : (wanted words taken).status ≡ status
-  pub output : now.held ≡ append_known before.held (wanted words taken).output
+  pub outcome : Outcome
+  pub is_wanted : Wanted words taken outcome
+  pub wanted_status : outcome.status ≡ status
+  pub output : now.held ≡ append_known before.held outcome.output
 
 -- a front of the wanted bytes stands behind what the sink held
 pub record CutShort (words : List (List ℕ)) (taken : List ℕ) (before now : Moment) : Type 0 where
   pub read : HasRead (command_of words) taken now.left
+  pub outcome : Outcome
+  pub is_wanted : Wanted words taken outcome
   pub count : ℕ
-  pub part : count < length (wanted words taken).output
-  pub output : now.held ≡ append_known before.held (take count (wanted words taken).output)
+  pub part : count < length outcome.output
+  pub output : now.held ≡ append_known before.held (take count outcome.output)
 
 -- what each status says, where these bytes were taken
 abbrev pub Says : List (List ℕ) → List ℕ → Moment → Moment → Status → Type 0
@@ -72,10 +77,15 @@ pub record Ends (words : List (List ℕ)) (before now : Moment) (status : Status
 abbrev pub Answers : List (List ℕ) → Moment → Moment → ℕ → Type 0
 Answers words before now code = (status : Status) × (code ≡ code_of status) × Ends words before now status
 
+-- the outcome is the wanted one for a whole input, and it was answered
+abbrev pub IsDone : List (List ℕ) → List ℕ → Moment → Moment → ℕ → Type 0
+IsDone words input before now code =
+    (outcome : Outcome) × Wanted words input outcome × (code ≡ code_of outcome.status) × (now.held ≡ append_known before.held outcome.output)
+
 -- What is wanted for a whole input was done. Else a count of faults rose, and 4 or 5 is answered for it, or 7 is.
 abbrev pub DoesAll : List (List ℕ) → List ℕ → Moment → Moment → ℕ → Type 0
 DoesAll words input before now code =
-    ((code ≡ code_of (wanted words input).status) × (now.held ≡ append_known before.held (wanted words input).output))
+    IsDone words input before now code
     ⊎ (((code ≡ 4) × Rose before.read_faults now.read_faults)
     ⊎ (((code ≡ 5) × Rose before.write_faults now.write_faults)
     ⊎ (code ≡ 7)))

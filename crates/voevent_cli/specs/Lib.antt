@@ -1,4 +1,7 @@
 -- What the program answers.
+pub mod Lines
+pub mod Outcomes
+pub mod Documents
 pub mod Wanted
 pub mod Safety
 pub mod Answers

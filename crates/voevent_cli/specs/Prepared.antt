@@ -6,7 +6,7 @@ use Rattle.voe_outside.specs.Whole.{Gave}
 use Rattle.voevent_cli.specs.declared.outcome.Outcome.{Outcome}
 use Rattle.voevent_cli.specs.declared.prepare.Hindrance.{Hindrance}
 use Rattle.voevent_cli.specs.declared.prepare.Hindrance.TheVariants.{ReadFault, NoMemory}
-use Rattle.voevent_cli.specs.Wanted.{command_of, wanted}
+use Rattle.voevent_cli.specs.Wanted.{Wanted, command_of}
 use Rattle.voevent_cli.specs.Answers.{HasRead, IsWithin, most_of}
 
 -- these bytes were taken, and not too many
@@ -15,7 +15,7 @@ Took words taken before now = Gave taken before now × (length taken ≤ most_of
 
 abbrev pub Prepares : List (List ℕ) → Option (List ℕ) → Option (List ℕ) → ℕ → ℕ → Result Outcome Hindrance → Type 0
 Prepares words before now faults_before faults_now (Ok outcome) =
-    (taken : List ℕ) × Took words taken before now × HasRead (command_of words) taken now × (outcome ≡ wanted words taken)
+    (taken : List ℕ) × Took words taken before now × HasRead (command_of words) taken now × Wanted words taken outcome
 Prepares words before now faults_before faults_now (Err ReadFault) =
     (taken : List ℕ) × Took words taken before now × IsWithin (command_of words) taken × Rose faults_before faults_now
 Prepares words before now faults_before faults_now (Err NoMemory) =

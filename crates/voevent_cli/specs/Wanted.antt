@@ -1,18 +1,20 @@
 -- What is wanted: a status and the bytes to write, for the words of a command line and the bytes of the input.
-use Rattle.std.specs.Prelude.{ℕ, cond, List, [], ◌∷◌, ◌++◌, Some, None, Result, Ok, Err, bytes_eq, codes}
+use Rattle.std.specs.Prelude.{◌≡◌, ℕ, cond, List, [], ◌∷◌, Some, None, Result, Ok, Err, bytes_eq, codes}
 use Rattle.std.specs.declared.option.Option.{Option}
-use Rattle.std.specs.Fmt.{decimal}
 use Rattle.net_model.specs.Runs.{after}
 use Rattle.net_model.specs.declared.state.State.{State}
 use Rattle.voe_net.specs.Plain.{plain}
 use Rattle.voe_net.specs.Report.{report_of}
 use Rattle.voe_scenario.specs.Scenarios.{Refusal, scenario_of}
 use Rattle.voe_scenario.specs.declared.scenario.Scenario.{Scenario}
+use Rattle.voevent_cli.specs.Documents.{WantedOf, checked, max_document, shown}
+use Rattle.voevent_cli.specs.Outcomes.{done, refused}
 use Rattle.voevent_cli.specs.declared.command.Command.{Command}
-use Rattle.voevent_cli.specs.declared.command.Command.TheVariants.{Net}
+use Rattle.voevent_cli.specs.declared.command.Command.TheVariants.{Net, Check, Show}
 use Rattle.voevent_cli.specs.declared.outcome.Status.{Status}
 use Rattle.voevent_cli.specs.declared.outcome.Status.TheVariants.{Done, Usage, Refused, ReadFault, WriteFault, NoMemory}
 use Rattle.voevent_cli.specs.declared.outcome.Outcome.{Outcome}
+use Rattle.voevent_cli.specs.declared.refusal.Refusal.TheVariants.{Scenario as BadLine}
 
 -- the exit status
 abbrev pub code_of : Status → ℕ
@@ -23,18 +25,27 @@ code_of ReadFault = 4
 code_of WriteFault = 5
 code_of NoMemory = 7
 
+-- ---- the words
+
+-- the command that one word is
+abbrev pub command_named : List ℕ → Option Command
+command_named word =
+    cond (bytes_eq word (codes "net")) (Some Net)
+    (cond (bytes_eq word (codes "check")) (Some Check)
+    (cond (bytes_eq word (codes "show")) (Some Show) None))
+
 -- the command that the words are, if they are one
 abbrev pub command_of : List (List ℕ) → Option Command
-command_of (word ∷ []) = cond (bytes_eq word (codes "net")) (Some Net) None
+command_of (word ∷ []) = command_named word
 command_of _ = None
 
 -- the greatest number of bytes of a command's input
 abbrev pub limit_of : Command → ℕ
 limit_of Net = 33554432
+limit_of Check = max_document
+limit_of Show = max_document
 
--- the line that names the refused line of the input, and the rule that it breaks, by its number
-abbrev pub refusal_line : Refusal → List ℕ
-refusal_line refusal = codes "refused S0" ++ (decimal refusal.number ++ (codes " line " ++ (decimal refusal.line ++ codes "\n")))
+-- ---- `net`
 
 -- the network after all events of a scenario
 abbrev pub final_state : Scenario → State
@@ -42,17 +53,24 @@ final_state scenario = after plain scenario.graph scenario.packets scenario.even
 
 -- the report of the run of a scenario, or the line that says why its text is refused
 abbrev pub reported : Result Scenario Refusal → Outcome
-reported (Ok scenario) = record { status = Done; output = report_of scenario.graph (final_state scenario) }
-reported (Err refusal) = record { status = Refused; output = refusal_line refusal }
+reported (Ok scenario) = done (report_of scenario.graph (final_state scenario))
+reported (Err refusal) = refused (BadLine refusal.number refusal.line)
 
 unfoldable pub wanted_of_net : List ℕ → Outcome
 wanted_of_net input = reported (scenario_of input)
 
--- what is wanted of a command for an input
-abbrev pub wanted_for : Option Command → List ℕ → Outcome
-wanted_for None input = record { status = Usage; output = codes "refused usage\n" }
-wanted_for (Some Net) input = wanted_of_net input
+-- ---- all commands
 
--- what is wanted of these words for an input
-abbrev pub wanted : List (List ℕ) → List ℕ → Outcome
-wanted words input = wanted_for (command_of words) input
+abbrev pub usage : Outcome
+usage = record { status = Usage; output = codes "refused usage\n" }
+
+-- the outcome is wanted of a command for an input
+abbrev pub WantedFor : Option Command → List ℕ → Outcome → Type 0
+WantedFor None input outcome = outcome ≡ usage
+WantedFor (Some Net) input outcome = outcome ≡ wanted_of_net input
+WantedFor (Some Check) input outcome = WantedOf checked input outcome
+WantedFor (Some Show) input outcome = WantedOf shown input outcome
+
+-- The outcome is wanted of these words for an input. There is only one.
+abbrev pub Wanted : List (List ℕ) → List ℕ → Outcome → Type 0
+Wanted words input outcome = WantedFor (command_of words) input outcome

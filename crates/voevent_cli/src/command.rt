@@ -1,7 +1,7 @@
 //! The commands.
 
 ghost use Rattle.std.specs.Prelude.{◌≡◌};
-ghost use Rattle.voevent_cli.specs.Wanted.{command_of, limit_of};
+ghost use Rattle.voevent_cli.specs.Wanted.{command_named, command_of, limit_of};
 
 use voe_values::Text;
 
@@ -10,6 +10,10 @@ use voe_values::Text;
 pub enum Command {
     /// `net`: runs a scenario, and reports on its nodes.
     Net,
+    /// `check`: says whether a document is a valid packet, and what is odd about it.
+    Check,
+    /// `show`: shows what a packet or a Transport message says.
+    Show,
 }
 
 impl Command {
@@ -18,7 +22,19 @@ impl Command {
         ensures { result ≡ command_of words.now }
     {
         match words {
-            [word] if word.as_str() == "net" => Some(Command::Net),
+            [word] => Command::named(word.as_str()),
+            _ => None,
+        }
+    }
+
+    /// The command that is one word.
+    fn named(word: &str) -> Option<Command>
+        ensures { result ≡ command_named word.now }
+    {
+        match word {
+            "net" => Some(Command::Net),
+            "check" => Some(Command::Check),
+            "show" => Some(Command::Show),
             _ => None,
         }
     }
@@ -29,6 +45,7 @@ impl Command {
     {
         match self {
             Command::Net => 33_554_432,
+            Command::Check | Command::Show => 1_048_576,
         }
     }
 }

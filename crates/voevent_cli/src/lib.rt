@@ -4,11 +4,15 @@
 //! status it ends with, what it writes and how much it reads.
 #![tactic(auto)]
 
+mod check;
 mod command;
-mod line;
+mod document;
+pub mod laws;
 mod net;
 mod outcome;
 mod prepare;
+mod refusal;
+mod show;
 mod top;
 
 pub use top::offline;

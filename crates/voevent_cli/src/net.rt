@@ -3,10 +3,10 @@
 ghost use Rattle.std.specs.Prelude.{◌≡◌, ◌≤◌, ◌<◌, IfOk, length};
 ghost use Rattle.voe_net.specs.Report.{report_of};
 ghost use Rattle.voe_scenario.specs.Sound.{IsSound};
-ghost use Rattle.voevent_cli.specs.Wanted.{final_state, refusal_line, wanted_of_net};
+ghost use Rattle.voevent_cli.specs.Wanted.{final_state, wanted_of_net};
 
-use crate::line::line_of_refusal;
 use crate::outcome::{Outcome, Status};
+use crate::refusal::Refusal;
 use std::alloc::Global;
 use voe_net::Network;
 use voe_scenario::{Scenario, ScenarioFault, read_scenario};
@@ -37,10 +37,10 @@ pub(crate) fn answer_of_net(alloc: Global, text: &[u8]) -> Result<Outcome, NoMem
             status: Status::Done,
             output: report_of_run(alloc, &scenario)?,
         }),
-        Err(ScenarioFault::Refused { number, line }) => Ok(Outcome {
-            status: Status::Refused,
-            output: line_of_refusal(alloc, number, line)?,
-        }),
+        Err(ScenarioFault::Refused { number, line }) => {
+            let outcome = Refusal::Scenario { number, line }.outcome(alloc)?;
+            Ok(outcome)
+        }
         Err(ScenarioFault::NoMemory) => Err(NoMemory),
     }
 }

@@ -1,14 +1,17 @@
 //! What is to be written, before any of it is.
 
 ghost use Rattle.std.specs.Prelude.{◌≡◌, ◌<◌, ◌≤◌, ℕ, List, Some, length, IfOk};
-ghost use Rattle.voevent_cli.specs.Wanted.{command_of, limit_of, wanted, wanted_for};
+ghost use Rattle.voevent_cli.specs.Wanted.{WantedFor, command_of, limit_of};
 ghost use Rattle.voe_outside.specs.Causes.{count_after};
+ghost use Rattle.voevent_cli.specs.Outcomes.{refused};
 ghost use Rattle.voevent_cli.specs.Prepared.{Prepares, is_unread};
 
+use crate::check::answer_of_check;
 use crate::command::Command;
-use crate::line::line_of_refusal;
 use crate::net::answer_of_net;
 use crate::outcome::{Outcome, Status};
+use crate::refusal::Refusal;
+use crate::show::answer_of_show;
 use std::alloc::Global;
 use voe_outside::{ReadFault, Source, read_all};
 use voe_values::{Bytes, NoMemory, Text};
@@ -34,22 +37,22 @@ impl From<NoMemory> for Hindrance {
 /// What a command answers to its whole input.
 fn answer_of(alloc: Global, command: Command, input: &[u8]) -> Result<Outcome, NoMemory>
     requires { length input.now ≤ limit_of command }
-    ensures { IfOk result (λ outcome. outcome ≡ wanted_for (Some command) input.now) }
+    ensures { IfOk result (WantedFor (Some command) input.now) }
 {
     match command {
         Command::Net => answer_of_net(alloc, input),
+        Command::Check => answer_of_check(alloc, input),
+        Command::Show => answer_of_show(alloc, input),
     }
 }
 
-/// What a command answers to an input above its limit.
-fn answer_above(alloc: Global, command: Command) -> Result<Outcome, NoMemory>
-    ensures { IfOk result (λ outcome. (input : List ℕ) → limit_of command < length input → outcome ≡ wanted_for (Some command) input) }
+/// Why a command refuses an input above its limit.
+fn refusal_above(command: Command) -> Refusal
+    ensures { (input : List ℕ) → limit_of command < length input → WantedFor (Some command) input (refused result) }
 {
     match command {
-        Command::Net => Ok(Outcome {
-            status: Status::Refused,
-            output: line_of_refusal(alloc, 3, 0)?,
-        }),
+        Command::Net => Refusal::Scenario { number: 3, line: 0 },
+        Command::Check | Command::Show => Refusal::TooLong,
     }
 }
 
@@ -70,7 +73,7 @@ pub(crate) fn prepare<S: Source>(
     };
     match read_all(alloc, source, command.limit()) {
         Ok(input) => Ok(answer_of(alloc, command, input.as_slice())?),
-        Err(ReadFault::TooLong) => Ok(answer_above(alloc, command)?),
+        Err(ReadFault::TooLong) => Ok(refusal_above(command).outcome(alloc)?),
         Err(ReadFault::Failed) => Err(Hindrance::ReadFault),
         Err(ReadFault::NoMemory) => Err(Hindrance::NoMemory),
     }

@@ -1,5 +1,5 @@
 -- What was prepared is written, with its status.
-use Rattle.std.proofs.Common.{ap, sym, ◌∙◌}
+use Rattle.std.proofs.Common.{ap, refl, ◌∙◌}
 use Rattle.std.specs.Io.KnownBytes.{append_known}
 use Rattle.voe_scenario.specs.Scenarios.{scenario_of}
 use Rattle.voevent_cli.proofs.SafeRuns.{safe_throughout}
@@ -16,8 +16,10 @@ returns-in-Ok-write_all-clause-ends g c =
       says = written c.args.words.now prepared.0 _ _ c.in-Ok.outcome.status
           (record {
             read = prepared.2;
-            wanted_status = ap (λ outcome. outcome.status) (sym prepared.3);
-            output = c.in-Ok-write_all.ensures.bytes ∙ ap (append_known (g.K.Sink.held c.args.sink.now)) (c.as_slice.ensures ∙ ap (λ outcome. outcome.output) prepared.3);
+            outcome = c.in-Ok.outcome;
+            is_wanted = prepared.3;
+            wanted_status = refl;
+            output = c.in-Ok-write_all.ensures.bytes ∙ ap (append_known (g.K.Sink.held c.args.sink.now)) c.as_slice.ensures;
           })
           (safe_throughout (scenario_of prepared.0) c.every_moment.ensures.single c.every_moment.ensures.written c.every_moment.ensures.fulfilled);
     }

@@ -1,0 +1,174 @@
+-- Of an input one outcome is wanted.
+use Rattle.std.proofs.Common.{◌≡◌, ◌⊎◌, ◌<◌, ◌≤◌, inl, inr, ℕ, Bool, true, false, List, length, Some, None, refl, sym, ◌∙◌, ap, subst, arith}
+use Rattle.std.specs.declared.option.Option.{Option}
+use Rattle.std.specs.Prelude.{cond}
+use Rattle.xml_lexer.specs.Characters.{Text}
+use Rattle.xml_lexer.specs.Token.{Token}
+use Rattle.xml_lexer.specs.Phases.{without_mark, IsTokensOf, RefusesText, RefusesToken, RefusesMany}
+use Rattle.xml_lexer.proofs.Cuts.{same_tokens}
+use Rattle.xml_lexer.proofs.Exclusion.{text_first, text_place, token_first, token_place, many_first}
+use Rattle.voe_tree.specs.Rules.{Rule, unbalanced, too_deep, repeated_attribute, unbound_prefix, root_missing, after_root, refusal_of}
+use Rattle.voe_tree.specs.Document.{IsRootOf, Spells}
+use Rattle.voe_tree.specs.Fault.{BreaksAt, RefusesTree}
+use Rattle.voe_tree.specs.declared.element.Element.{Element}
+use Rattle.voe_tree.specs.declared.fault.TreeFault.{TreeFault}
+use Rattle.voe_tree.specs.declared.fault.TreeFault.TheVariants.{NotText, BadToken, Doctype, TooManyTokens, Unbalanced, TooDeep, RepeatedAttribute, UnboundPrefix, RootMissing, AfterRoot, NoMemory}
+use Rattle.voe_tree.proofs.RootLaws.{same_root}
+use Rattle.voe_validity.specs.Judging.{number_of_fault}
+use Rattle.voevent_cli.specs.Documents.{Document, tree, no_tree, too_long, IsDocument, WantedOf, checked, place_of_fault, shown, wanted_of}
+use Rattle.voevent_cli.specs.Wanted.{Wanted, WantedFor, command_of}
+use Rattle.voevent_cli.specs.declared.command.Command.{Command}
+use Rattle.voevent_cli.specs.declared.command.Command.TheVariants.{Net, Check, Show}
+use Rattle.voevent_cli.specs.declared.outcome.Outcome.{Outcome}
+use Rattle.voevent_cli.specs.declared.refusal.Refusal.TheVariants.{Tree}
+use Rattle.voevent_cli.specs.Outcomes.{refused}
+
+abbrev number_of_rule : Rule → ℕ
+number_of_rule unbalanced = 5
+number_of_rule too_deep = 6
+number_of_rule repeated_attribute = 7
+number_of_rule unbound_prefix = 8
+number_of_rule root_missing = 9
+number_of_rule after_root = 10
+
+abbrev place_of_rule : Rule → ℕ → Option ℕ
+place_of_rule unbalanced place = Some place
+place_of_rule too_deep place = Some place
+place_of_rule repeated_attribute place = Some place
+place_of_rule unbound_prefix place = Some place
+place_of_rule root_missing place = None
+place_of_rule after_root place = Some place
+
+-- what a refusal shows
+abbrev Shown : Type 0
+Shown = ℕ × Option ℕ
+
+abbrev shows : ℕ → Option ℕ → Shown
+shows n p = (n, p)
+
+-- in which turn bytes are refused, and what is shown of it
+abbrev Told : Text → Shown → Type 0
+Told bytes s =
+    ((place : ℕ) × RefusesText bytes place × (shows 1 (Some place) ≡ s))
+    ⊎ (((doctype : Bool) × (place : ℕ) × RefusesToken bytes doctype place × (shows (cond doctype 4 2) (Some place) ≡ s))
+    ⊎ ((RefusesMany bytes × (shows 3 None ≡ s))
+    ⊎ ((rule : Rule) × (place : ℕ) × BreaksAt bytes rule place × (shows (number_of_rule rule) (place_of_rule rule place) ≡ s))))
+
+both : (n m : ℕ) (p q : Option ℕ) → Some n ≡ Some m → p ≡ q → shows n p ≡ shows m q
+both n m p q e f = let numbers : n ≡ m = cc in ap (λ k. shows k p) numbers ∙ ap (shows m) f
+
+told : (bytes : Text) (fault : TreeFault) (n : ℕ) (p : Option ℕ) → RefusesTree bytes fault → number_of_fault fault ≡ Some n → place_of_fault fault ≡ p → Told bytes (shows n p)
+told bytes (NotText place) n p r e f = inl (place, r, both 1 n (Some place) p e f)
+told bytes (BadToken place) n p r e f = inr (inl (false, place, r, both 2 n (Some place) p e f))
+told bytes (Doctype place) n p r e f = inr (inl (true, place, r, both 4 n (Some place) p e f))
+told bytes TooManyTokens n p r e f = inr (inr (inl (r, both 3 n None p e f)))
+told bytes (Unbalanced place) n p r e f = inr (inr (inr (unbalanced, place, r, both 5 n (Some place) p e f)))
+told bytes (TooDeep place) n p r e f = inr (inr (inr (too_deep, place, r, both 6 n (Some place) p e f)))
+told bytes (RepeatedAttribute place) n p r e f = inr (inr (inr (repeated_attribute, place, r, both 7 n (Some place) p e f)))
+told bytes (UnboundPrefix place) n p r e f = inr (inr (inr (unbound_prefix, place, r, both 8 n (Some place) p e f)))
+told bytes RootMissing n p r e f = inr (inr (inr (root_missing, r.0, r.1, both 9 n None p e f)))
+told bytes (AfterRoot place) n p r e f = inr (inr (inr (after_root, place, r, both 10 n (Some place) p e f)))
+told bytes NoMemory n p r e f = absurd (cc)
+
+-- ---- one turn leaves out the others
+
+text_not_token : (bytes : Text) (d : Bool) (p q : ℕ) → RefusesText bytes p → RefusesToken bytes d q → ⊥
+text_not_token bytes d p q one other = text_first bytes p one other.0
+
+text_not_many : (bytes : Text) (p : ℕ) → RefusesText bytes p → RefusesMany bytes → ⊥
+text_not_many bytes p one other = text_first bytes p one other.0
+
+text_not_broken : (bytes : Text) (rule : Rule) (p q : ℕ) → RefusesText bytes p → BreaksAt bytes rule q → ⊥
+text_not_broken bytes rule p q one other = text_first bytes p one other.1.0
+
+token_not_many : (bytes : Text) (d : Bool) (p : ℕ) → RefusesToken bytes d p → RefusesMany bytes → ⊥
+token_not_many bytes d p one other = token_first bytes d p other.1 one other.2
+
+token_not_broken : (bytes : Text) (d : Bool) (rule : Rule) (p q : ℕ) → RefusesToken bytes d p → BreaksAt bytes rule q → ⊥
+token_not_broken bytes d rule p q one other = token_first bytes d p other.0 one other.1.1
+
+many_not_broken : (bytes : Text) (rule : Rule) (q : ℕ) → RefusesMany bytes → BreaksAt bytes rule q → ⊥
+many_not_broken bytes rule q one other = many_first bytes other.0 one other.1
+
+abbrev shown_in : Option (Rule × ℕ) → Shown
+shown_in None = shows 0 None
+shown_in (Some broken) = shows (number_of_rule broken.0) (place_of_rule broken.0 broken.1)
+
+broken_once : (bytes : Text) (rule other : Rule) (p q : ℕ) → BreaksAt bytes rule p → BreaksAt bytes other q →
+    shows (number_of_rule rule) (place_of_rule rule p) ≡ shows (number_of_rule other) (place_of_rule other q)
+broken_once bytes rule other p q (ks, t, e) (ls, u, f) =
+    let same_list : ks ≡ ls = same_tokens (without_mark bytes) ks ls t.1.1 u.1.1 in
+    ap shown_in (sym e ∙ ap refusal_of same_list ∙ f)
+
+token_once : (bytes : Text) (d k : Bool) (p q : ℕ) → RefusesToken bytes d p → RefusesToken bytes k q → shows (cond d 4 2) (Some p) ≡ shows (cond k 4 2) (Some q)
+token_once bytes d k p q one other =
+    let same = token_place bytes d k p q one other in
+    ap (λ b. shows (cond b 4 2) (Some p)) same.0 ∙ ap (λ n. shows (cond k 4 2) (Some n)) same.1
+
+same_told : (bytes : Text) (s t : Shown) → Told bytes s → Told bytes t → s ≡ t
+same_told bytes s t (inl (p, r, e)) (inl (q, u, f)) = sym e ∙ ap (λ n. shows 1 (Some n)) (text_place bytes p q r u) ∙ f
+same_told bytes s t (inl (p, r, e)) (inr (inl (d, q, u, f))) = absurd (text_not_token bytes d p q r u)
+same_told bytes s t (inl (p, r, e)) (inr (inr (inl (u, f)))) = absurd (text_not_many bytes p r u)
+same_told bytes s t (inl (p, r, e)) (inr (inr (inr (rule, q, u, f)))) = absurd (text_not_broken bytes rule p q r u)
+same_told bytes s t (inr (inl (d, q, u, f))) (inl (p, r, e)) = absurd (text_not_token bytes d p q r u)
+same_told bytes s t (inr (inl (d, q, u, f))) (inr (inl (k, p, r, e))) = sym f ∙ token_once bytes d k q p u r ∙ e
+same_told bytes s t (inr (inl (d, q, u, f))) (inr (inr (inl (r, e)))) = absurd (token_not_many bytes d q u r)
+same_told bytes s t (inr (inl (d, q, u, f))) (inr (inr (inr (rule, p, r, e)))) = absurd (token_not_broken bytes d rule q p u r)
+same_told bytes s t (inr (inr (inl (u, f)))) (inl (p, r, e)) = absurd (text_not_many bytes p r u)
+same_told bytes s t (inr (inr (inl (u, f)))) (inr (inl (d, q, r, e))) = absurd (token_not_many bytes d q r u)
+same_told bytes s t (inr (inr (inl (u, f)))) (inr (inr (inl (r, e)))) = sym f ∙ e
+same_told bytes s t (inr (inr (inl (u, f)))) (inr (inr (inr (rule, p, r, e)))) = absurd (many_not_broken bytes rule p u r)
+same_told bytes s t (inr (inr (inr (rule, p, u, f)))) (inl (q, r, e)) = absurd (text_not_broken bytes rule q p r u)
+same_told bytes s t (inr (inr (inr (rule, p, u, f)))) (inr (inl (d, q, r, e))) = absurd (token_not_broken bytes d rule q p r u)
+same_told bytes s t (inr (inr (inr (rule, p, u, f)))) (inr (inr (inl (r, e)))) = absurd (many_not_broken bytes rule p r u)
+same_told bytes s t (inr (inr (inr (rule, p, u, f)))) (inr (inr (inr (other, q, r, e)))) = sym f ∙ broken_once bytes rule other p q u r ∙ e
+
+one_tree : (bytes : Text) (a b : Element) → Spells a bytes → Spells b bytes → a ≡ b
+one_tree bytes a b (ks, h, r) (others, k, s) =
+    let same_list : ks ≡ others = same_tokens (without_mark bytes) ks others h.1.1 k.1.1 in
+    same_root others a b (subst (λ (l : List Token). IsRootOf a l) same_list r) s
+
+none_is_not_some : {X : Type 0} {x : X} → None ≡ Some x → ⊥
+none_is_not_some e = cc
+
+unbroken_not_broken : (bytes : Text) (ks : List Token) (root : Element) (rule : Rule) (place : ℕ) → IsTokensOf ks bytes → IsRootOf root ks → BreaksAt bytes rule place → ⊥
+unbroken_not_broken bytes ks root rule place t r (others, k, e) =
+    let same_list : ks ≡ others = same_tokens (without_mark bytes) ks others t.1.1 k.1.1 in
+    none_is_not_some (sym r.unbroken ∙ ap refusal_of same_list ∙ e)
+
+spelled_not_told : (bytes : Text) (root : Element) (s : Shown) → Spells root bytes → Told bytes s → ⊥
+spelled_not_told bytes root s (ks, t, r) (inl (p, f, e)) = text_first bytes p f t.0
+spelled_not_told bytes root s (ks, t, r) (inr (inl (d, p, f, e))) = token_first bytes d p ks f t.1
+spelled_not_told bytes root s (ks, t, r) (inr (inr (inl (f, e)))) = many_first bytes ks f t
+spelled_not_told bytes root s (ks, t, r) (inr (inr (inr (rule, p, f, e)))) = unbroken_not_broken bytes ks root rule p t r f
+
+-- ---- documents
+
+told_of : (input : Text) (n : ℕ) (p : Option ℕ) → IsDocument input (no_tree n p) → Told input (shows n p)
+told_of input n p (short, fault, r, e, f) = told input fault n p r e f
+
+refused_as : (s t : Shown) → s ≡ t → refused (Tree s.0 s.1) ≡ refused (Tree t.0 t.1)
+refused_as s t e = ap (λ (x : Shown). refused (Tree x.0 x.1)) e
+
+same_document : (judged : Element → Outcome) (input : Text) (a b : Document) → IsDocument input a → IsDocument input b → wanted_of judged a ≡ wanted_of judged b
+same_document judged input (tree a) (tree b) (s, one) (t, other) = ap judged (one_tree input a b one other)
+same_document judged input (tree a) (no_tree n p) (s, one) other = absurd (spelled_not_told input a (shows n p) one (told_of input n p other))
+same_document judged input (tree a) too_long (s, one) above = absurd (omega arith)
+same_document judged input (no_tree n p) (tree b) one (t, other) = absurd (spelled_not_told input b (shows n p) other (told_of input n p one))
+same_document judged input (no_tree n p) (no_tree m q) one other = refused_as (shows n p) (shows m q) (same_told input (shows n p) (shows m q) (told_of input n p one) (told_of input m q other))
+same_document judged input (no_tree n p) too_long one above = absurd (let short = one.0 in omega arith)
+same_document judged input too_long (tree b) above (t, other) = absurd (omega arith)
+same_document judged input too_long (no_tree n p) above other = absurd (let short = other.0 in omega arith)
+same_document judged input too_long too_long one other = refl
+
+same_of : (judged : Element → Outcome) (input : Text) (a b : Outcome) → WantedOf judged input a → WantedOf judged input b → a ≡ b
+same_of judged input a b (one, is, e) (other, also, f) = e ∙ same_document judged input one other is also ∙ sym f
+
+same_for : (command : Option Command) (input : Text) (a b : Outcome) → WantedFor command input a → WantedFor command input b → a ≡ b
+same_for None input a b one other = one ∙ sym other
+same_for (Some Net) input a b one other = one ∙ sym other
+same_for (Some Check) input a b one other = same_of checked input a b one other
+same_for (Some Show) input a b one other = same_of shown input a b one other
+
+pub wanted_once : (words : List (List ℕ)) (input : List ℕ) (a b : Outcome) → Wanted words input a → Wanted words input b → a ≡ b
+wanted_once words input a b one other = same_for (command_of words) input a b one other

@@ -1,0 +1,105 @@
+//! Why nothing was done, and the line that says so.
+
+ghost use Rattle.std.specs.Prelude.{◌≡◌, ◌++◌, IfOk, OnOk};
+ghost use Rattle.std.specs.Fmt.{decimal};
+ghost use Rattle.voevent_cli.specs.Outcomes.{refused};
+ghost use Rattle.voevent_cli.specs.Lines.{two_digits};
+
+use crate::outcome::{Outcome, Status};
+use std::alloc::Global;
+use voe_values::{Bytes, NoMemory};
+
+/// Why an input is refused.
+#[derive(Clone, Copy, Debug, PartialEq, Eq)]
+pub enum Refusal {
+    /// F2: the input is longer than a document may be.
+    TooLong,
+    /// T01 to T10: the input is no document, with the byte or the token where the rule has one.
+    Tree { number: u8, place: Option<usize> },
+    /// V01 to V12: the document is no valid packet.
+    Validity { number: u8 },
+    /// M2: the message has none of the four roles.
+    BadRole,
+    /// M3: the message names no origin.
+    NoOrigin,
+    /// S01 to S06: a line of the scenario is refused.
+    Scenario { number: u8, line: u32 },
+}
+
+impl Refusal {
+    ghost use Rattle.voevent_cli.specs.Lines.{code_of_refusal, place_of_refusal};
+
+    /// Adds the code of the rule that refuses.
+    fn add_code(self, alloc: Global, out: &mut Bytes) -> Result<(), NoMemory>
+        ensures { OnOk result (out.new ≡ out.old ++ code_of_refusal self) }
+    {
+        match self {
+            Refusal::TooLong => out.extend(b"F2"),
+            Refusal::Tree { number, .. } => {
+                out.extend(b"T")?;
+                add_two_digits(alloc, out, number)
+            }
+            Refusal::Validity { number } => {
+                out.extend(b"V")?;
+                add_two_digits(alloc, out, number)
+            }
+            Refusal::BadRole => out.extend(b"M2"),
+            Refusal::NoOrigin => out.extend(b"M3"),
+            Refusal::Scenario { number, .. } => {
+                out.extend(b"S0")?;
+                add_number(alloc, out, number as usize)
+            }
+        }
+    }
+
+    /// Adds where it refuses, for the rules that have a place or a line.
+    fn add_place(self, alloc: Global, out: &mut Bytes) -> Result<(), NoMemory>
+        ensures { OnOk result (out.new ≡ out.old ++ place_of_refusal self) }
+    {
+        match self {
+            Refusal::Tree {
+                place: Some(place), ..
+            } => {
+                out.extend(b" at ")?;
+                add_number(alloc, out, place)
+            }
+            Refusal::Scenario { line, .. } => {
+                out.extend(b" line ")?;
+                add_number(alloc, out, line as usize)
+            }
+            _ => Ok(()),
+        }
+    }
+
+    /// The outcome of an input that is refused so: its one line.
+    pub(crate) fn outcome(self, alloc: Global) -> Result<Outcome, NoMemory>
+        ensures { IfOk result (λ outcome. outcome ≡ refused self) }
+    {
+        let mut output = Bytes::new(alloc);
+        output.extend(b"refused ")?;
+        self.add_code(alloc, &mut output)?;
+        self.add_place(alloc, &mut output)?;
+        output.extend(b"\n")?;
+        Ok(Outcome {
+            status: Status::Refused,
+            output,
+        })
+    }
+}
+
+fn add_number(alloc: Global, out: &mut Bytes, number: usize) -> Result<(), NoMemory>
+    ensures { OnOk result (out.new ≡ out.old ++ decimal number) }
+{
+    let digits = format!(in alloc; "{number}")?;
+    out.extend(digits.as_bytes())
+}
+
+/// Adds a number below a hundred in two digits.
+pub(crate) fn add_two_digits(alloc: Global, out: &mut Bytes, number: u8) -> Result<(), NoMemory>
+    ensures { OnOk result (out.new ≡ out.old ++ two_digits number) }
+{
+    let tens = number / 10;
+    let ones = number % 10;
+    let digits = format!(in alloc; "{tens}{ones}")?;
+    out.extend(digits.as_bytes())
+}
