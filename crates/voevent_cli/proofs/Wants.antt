@@ -16,7 +16,7 @@ use Rattle.voe_tree.specs.declared.fault.TreeFault.{TreeFault}
 use Rattle.voe_validity.specs.Judging.{number_of_fault}
 use Rattle.vtp_messages.specs.Parts.{is_transport, role_of, origin_of}
 use Rattle.vtp_messages.specs.declared.role.MessageRole.{MessageRole}
-use Rattle.voevent_cli.specs.Documents.{Document, tree, no_tree, too_long, IsDocument, WantedOf, checked, checked_by, place_of_fault, shown, shown_by, shown_message, wanted_of}
+use Rattle.voevent_cli.specs.Documents.{Document, tree, no_tree, too_long, WantedOf, checked, checked_by, place_of_fault, shown, shown_by, shown_message, wanted_of}
 use Rattle.voevent_cli.specs.Outcomes.{done, refused}
 use Rattle.voevent_cli.specs.Safety.{IsSafeThroughout}
 use Rattle.voevent_cli.specs.declared.command.Command.{Command}
@@ -26,7 +26,7 @@ use Rattle.voevent_cli.specs.declared.outcome.Status.TheVariants.{Done, Usage, R
 use Rattle.voevent_cli.specs.declared.outcome.Outcome.{Outcome}
 use Rattle.voevent_cli.specs.declared.refusal.Refusal.TheVariants.{TooLong, Tree, Scenario as BadLine}
 use Rattle.voevent_cli.specs.Wanted.{Wanted, WantedFor, code_of, command_of, final_state, limit_of, wanted_of_net, reported}
-use Rattle.voevent_cli.specs.Answers.{Moment, HasRead, Answered, Says, IsDone, DoesAll}
+use Rattle.voevent_cli.specs.Answers.{Moment, HasRead, Answered, Says, DoesAll}
 
 -- ---- `net`
 
@@ -178,10 +178,12 @@ wanted_for-taken (Some command) taken input (Some rest) outcome (inr above) gave
 all_done : (words : List (List ℕ)) (taken input : List ℕ) (before now : Moment) (status : Status) → before.left ≡ Some input
     → Gave taken before.left now.left → Answered words taken before now status → DoesAll words input before now (code_of status)
 all_done words taken input before now status told gave answered =
-    inl (answered.outcome,
+    inl (
+      answered.outcome,
       wanted_for-taken (command_of words) taken input now.left answered.outcome answered.read (rw told at gave) answered.is_wanted,
       ap code_of (sym answered.wanted_status),
-      answered.output)
+      answered.output,
+    )
 
 -- of a source that tells its bytes, all that is wanted was done, or 4, 5 or 7 is answered
 pub does_all : (words : List (List ℕ)) (taken input : List ℕ) (before now : Moment) (status : Status) → before.left ≡ Some input

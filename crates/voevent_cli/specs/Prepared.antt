@@ -1,5 +1,5 @@
 -- What was read and made before anything is written.
-use Rattle.std.specs.Prelude.{◌≡◌, ℕ, ◌≤◌, List, length, Bool, true, false, Result, Ok, Err}
+use Rattle.std.specs.Prelude.{ℕ, ◌≤◌, List, length, Bool, true, false, Result, Ok, Err}
 use Rattle.std.specs.declared.option.Option.{Option}
 use Rattle.voe_outside.specs.Causes.{Rose}
 use Rattle.voe_outside.specs.Whole.{Gave}

@@ -58,7 +58,8 @@ impl Refusal {
     {
         match self {
             Refusal::Tree {
-                place: Some(place), ..
+                place: Some(place),
+                ..
             } => {
                 out.extend(b" at ")?;
                 add_number(alloc, out, place)

@@ -11,4 +11,4 @@ pub returns-in_ok-outcome-in-Err-Refused : goal.returns-in_ok-outcome-in-Err-Ref
 returns-in_ok-outcome-in-Err-Refused c =
     c.in_ok-outcome-in-Err-Refused.ensures
     ∙ wanted_of_net-refused c.args.text.now (record { number = c.in-Err-Refused.number; line = c.in-Err-Refused.line })
-        (rw c.in-Err-Refused.field-0-is at c.in-Err-Refused.ensures.refused)
+    (rw c.in-Err-Refused.field-0-is at c.in-Err-Refused.ensures.refused)
