@@ -1,0 +1,9 @@
+//! Path filters as data, and their texts (a profile of XPath 1.0).
+//!
+//! A text is read as a path, or refused with the place that decides, and a path is written as its canonical text.
+//! What a path names in a document is told elsewhere.
+#![tactic(auto)]
+
+mod filter;
+
+pub use filter::{Axis, Comparison, Condition, Operand, Part, Path, Step, Test};
