@@ -1,3 +1,9 @@
 pub mod Filter
 pub mod View
 pub mod Size
+pub mod Token
+pub mod Grammar
+pub mod Reading
+pub mod Refusal
+pub mod Writing
+pub mod Machine

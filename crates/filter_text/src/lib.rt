@@ -4,6 +4,8 @@
 //! What a path names in a document is told elsewhere.
 #![tactic(auto)]
 
+mod fault;
 mod filter;
 
+pub use fault::FilterFault;
 pub use filter::{Axis, Comparison, Condition, Operand, Part, Path, Step, Test};
