@@ -1,5 +1,5 @@
 -- A machine that reads symbols from the front, as long as some sentence goes on with them, and keeps what it has read.
-use Rattle.std.specs.Prelude.{ℕ, ◌||◌, if◌then◌else◌, Bool, true, false, List, [], ◌∷◌, Option, Some, None, codes}
+use Rattle.std.specs.Prelude.{ℕ, ◌||◌, ◌&&◌, is_none, if◌then◌else◌, Bool, true, false, List, [], ◌∷◌, Option, Some, None, codes}
 use Rattle.std.specs.Str.{bytes_eq}
 use Rattle.filter_text.specs.Filter.{Text, Axis, child, descendant, Test, Comparison, Path, path, Steps, arrived, Condition, any_of, all_of, not_so, alone, Conditions, no_more, more, Operand, found, local_name}
 use Rattle.filter_text.specs.Filter as filter
@@ -203,6 +203,15 @@ part_read _ = None
 -- what was read, where it is a sentence
 abbrev pub sentence_of : Machine → Option Condition
 sentence_of m = elim m.stack [ [] ↦ part_read m.state | o ∷ os ↦ None ]
+
+abbrev pub is_empty : Level → Bool
+is_empty level = is_none level.ors && is_none level.ands && is_none level.left
+
+-- the path that was read, where that is all
+abbrev pub path_read : State → Option Path
+path_read (behind_step level way test cs) = if is_empty level then Some (path_to way test cs) else None
+path_read (behind_operand level (found p)) = if is_empty level then Some p else None
+path_read _ = None
 
 -- what the machine ends with, or the place of the token that it refuses
 pub data Walked : Type 0 where
