@@ -2,3 +2,5 @@ pub mod Lists
 pub mod Takes
 pub mod Sound
 pub mod Walks
+pub mod Suffixes
+pub mod TokenLaws

@@ -7,3 +7,4 @@ pub mod Reading
 pub mod Refusal
 pub mod Writing
 pub mod Machine
+pub mod Scan
