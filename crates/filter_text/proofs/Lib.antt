@@ -4,3 +4,4 @@ pub mod Sound
 pub mod Walks
 pub mod Suffixes
 pub mod TokenLaws
+pub mod CutLaws
