@@ -157,3 +157,11 @@ one-cut s ks others end stop rest more a b =
     let sizes : length rest ≡ length more = ap length behind in
     let first = x.1 in let second = y.1 in
     (ap (λ p. p.0) same, omega arith, behind)
+
+pub rest-short : (s : Text) (k : Token) (rest : Text) → token_at s ≡ Some (k, rest) → length (skip_blanks rest) ≤ length s
+rest-short s k rest e =
+    let begins = begins-at s (k, rest) e in
+    let whole : length s ≡ length begins.spelled + length rest = ap length begins.is_front ∙ length-append begins.spelled rest in
+    let skipped = skip_blanks-sound rest in
+    let parts : length rest ≡ length skipped.0 + length (skip_blanks rest) = ap length skipped.2 ∙ length-append skipped.0 (skip_blanks rest) in
+    omega arith

@@ -5,3 +5,4 @@ pub mod Walks
 pub mod Suffixes
 pub mod TokenLaws
 pub mod CutLaws
+pub mod CuttingSteps

@@ -1,6 +1,9 @@
 -- What is left of a text behind its front.
 use Rattle.std.proofs.Common.{◌≡◌, ◌+◌, ◌≤◌, ◌<◌, ℕ, zero, suc, Bool, true, false, cond, List, [], ◌∷◌, ◌++◌, length, take, drop, refl, sym, ◌∙◌, ap, arith, length-append}
 use Rattle.std.specs.List.{list_all, prefix_len}
+use Rattle.std.specs.Char.{is_ascii_digit}
+use Rattle.std.proofs.lemmas.Bool.Decides.{nat_tests}
+use Rattle.xml_lexer.specs.Characters.{starts_name}
 use Rattle.xml_lexer.proofs.Runs.{both}
 use Rattle.filter_text.specs.Filter.{Text}
 
@@ -38,3 +41,10 @@ drop-more (x ∷ a) s n = let e : suc (length a) + n ≡ suc (length a + n) = om
 pub take-more : (a s : Text) (n : ℕ) → take (length a + n) (a ++ s) ≡ a ++ take n s
 take-more [] s n = let e : 0 + n ≡ n = omega arith in rw e refl
 take-more (x ∷ a) s n = let e : suc (length a) + n ≡ suc (length a + n) = omega arith in rw e (ap (λ l. x ∷ l) (take-more a s n))
+
+pub digit-ascii : (b : ℕ) → is_ascii_digit b ≡ true → b < 128
+digit-ascii b h = grind (arith, nat_tests)
+
+-- what begins no name is ASCII
+pub low_mark : (b : ℕ) → starts_name b ≡ false → b < 128
+low_mark b h = grind (arith, nat_tests)

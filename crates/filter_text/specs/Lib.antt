@@ -8,3 +8,4 @@ pub mod Refusal
 pub mod Writing
 pub mod Machine
 pub mod Scan
+pub mod TokenView

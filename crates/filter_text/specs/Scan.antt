@@ -39,11 +39,15 @@ abbrev pub or_longer : Option Text → Token → Token → Text → Option (Toke
 or_longer None longer shorter rest = Some (shorter, rest)
 or_longer (Some behind) longer shorter rest = Some (longer, behind)
 
+-- behind `!`
+abbrev pub differs_at : Text → Option (Token × Text)
+differs_at s = option_map (λ rest. (differs, rest)) (byte_at 61 s)
+
 -- behind the first byte of the other ones
 abbrev pub other_at : ℕ → Text → Option (Token × Text)
 other_at b s =
     if b == 47 then or_longer (byte_at 47 s) double_slash slash s
-    else (if b == 33 then option_map (λ rest. (differs, rest)) (byte_at 61 s)
+    else (if b == 33 then differs_at s
     else (if b == 34 || b == 39 then literal_at b s
     else (if b == 46 then or_longer (byte_at 46 s) foreign foreign (behind_digits s)
     else (if b == 58 then or_longer (byte_at 58 s) foreign foreign s

@@ -4,8 +4,11 @@
 //! What a path names in a document is told elsewhere.
 #![tactic(auto)]
 
+mod characters;
 mod fault;
 mod filter;
+mod scan;
+mod token;
 
 pub use fault::FilterFault;
 pub use filter::{Axis, Comparison, Condition, Operand, Part, Path, Step, Test};

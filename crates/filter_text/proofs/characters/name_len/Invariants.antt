@@ -1,0 +1,11 @@
+use Rattle.std.proofs.Common.{◌≡◌, ◌+◌, ◌-◌, ◌≤◌, length, drop}
+use Rattle.std.specs.List.{prefix_len}
+use Rattle.std.specs.Str.{IsCharBoundary}
+use Rattle.xml_lexer.specs.Characters.{is_name_byte}
+use Rattle.filter_text.proofs.characters.name_len.Given as goal
+
+abbrev pub invariant-loop-len : goal.invariant-loop-len
+invariant-loop-len l = (l.len + prefix_len is_name_byte (drop l.len l.bytes) ≡ prefix_len is_name_byte l.bytes) × (l.len ≤ length l.bytes)
+
+abbrev pub decreases-loop-len : goal.decreases-loop-len
+decreases-loop-len l = length l.bytes - l.len
