@@ -6,3 +6,4 @@ pub mod Suffixes
 pub mod TokenLaws
 pub mod CutLaws
 pub mod CuttingSteps
+pub mod Views

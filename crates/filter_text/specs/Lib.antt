@@ -9,3 +9,4 @@ pub mod Writing
 pub mod Machine
 pub mod Scan
 pub mod TokenView
+pub mod MachineView

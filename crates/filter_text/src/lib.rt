@@ -8,7 +8,10 @@ mod characters;
 mod fault;
 mod filter;
 mod scan;
+mod state;
+mod symbol;
 mod token;
+mod combine;
 
 pub use fault::FilterFault;
 pub use filter::{Axis, Comparison, Condition, Operand, Part, Path, Step, Test};
