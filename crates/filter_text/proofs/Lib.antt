@@ -7,3 +7,4 @@ pub mod TokenLaws
 pub mod CutLaws
 pub mod CuttingSteps
 pub mod Views
+pub mod Stacks

@@ -158,6 +158,12 @@ compare level o _ left s stack = close level (compared left o) s stack
 abbrev pub behind : Level → Operand → Symbol → List Opening → Option Machine
 behind level o s stack = compare level o (comparison_in s) level.left s stack
 
+-- what a step goes to
+abbrev pub test_in : Symbol → Option Test
+test_in (plain star) = Some filter.any
+test_in (plain (name n)) = Some (filter.name n)
+test_in _ = None
+
 abbrev pub advance : State → Symbol → List Opening → Option Machine
 advance (start level) (plain opening_parenthesis) stack = open_group level false level.left stack
 advance (start level) not_function stack = open_not level level.left stack

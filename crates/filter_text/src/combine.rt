@@ -179,6 +179,19 @@ pub fn negated_or_not(
     }
 }
 
+/// The conditions of a step with one more.
+#[tactic(auto, using(crate::proofs::Views::views))]
+pub fn with_condition(
+    conditions: Items<Condition>,
+    condition: Condition,
+) -> Result<Items<Condition>, NoMemory>
+    ensures { IfOk result (λ r. conditions_view r ≡ joined (conditions_view conditions) (more (condition_of condition) no_more)) }
+{
+    let mut conditions = conditions;
+    conditions.push(condition)?;
+    Ok(conditions)
+}
+
 /// A path that starts at an element, before its first step.
 pub fn relative(alloc: Global) -> Way
     ensures { way_view result ≡ relative }

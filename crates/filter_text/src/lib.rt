@@ -12,6 +12,7 @@ mod state;
 mod symbol;
 mod token;
 mod combine;
+mod advance;
 
 pub use fault::FilterFault;
 pub use filter::{Axis, Comparison, Condition, Operand, Part, Path, Step, Test};
