@@ -8,3 +8,4 @@ pub mod CutLaws
 pub mod CuttingSteps
 pub mod Views
 pub mod Stacks
+pub mod TokensRead

@@ -423,6 +423,10 @@ path-cond : (b : Bool) (p : Path) (ts : List Symbol) → (b ≡ true → IsPath 
 path-cond true p ts f = f refl
 path-cond false p ts f = tt
 
+no-path-cond : (b : Bool) (ts : List Symbol) → PathOk (cond b None None) ts
+no-path-cond true ts = tt
+no-path-cond false ts = tt
+
 none-of : {A : Type 0} (o : Option A) → is_none o ≡ true → o ≡ None
 none-of None e = refl
 none-of (Some x) e = cc
@@ -444,6 +448,7 @@ path-sound (behind_step level way test cs) ss (ls, ws, t, bs, l, w, it, b, e) =
     path-cond (is_empty level) (path_to way test cs) ss (λ n. cast-path ss (ws ++ t ∷ bs) _ (e ∙ ap (λ x. x ++ (ws ++ t ∷ bs)) (empty-level ls level l n)) (step-operand ws bs t way test cs w it b))
 path-sound (behind_operand level (found p)) ss (ls, os, l, is, e) =
     path-cond (is_empty level) p ss (λ n. cast-path ss os p (e ∙ ap (λ x. x ++ os) (empty-level ls level l n)) (the-path os p is))
+path-sound (behind_operand level o) ss (ls, os, l, is, e) = no-path-cond (is_empty level) ss
 path-sound st ss ok = tt
 
 pub beginning-ok : MachineOk machine.beginning []

@@ -4,7 +4,7 @@ use Rattle.filter_text.specs.Filter.{Path, Condition, found}
 use Rattle.filter_text.specs.Token.{Placed}
 use Rattle.filter_text.specs.Grammar.{Symbol, IsPath, IsCondition}
 use Rattle.filter_text.specs.Reading.{symbol_of, symbols_of, next_token, place_of, IsSentence, GoesOn}
-use Rattle.filter_text.specs.Machine.{State, start, Opening, Machine, nothing_read, beginning, advance, and_then, run, part_read, sentence_of, path_read, path_to, Walked, refused, ended, walk, walk_on, whole}
+use Rattle.filter_text.specs.Machine.{State, start, Opening, Machine, nothing_read, beginning, advance, and_then, run, part_read, sentence_of, path_read, path_of_machine, path_to, Walked, refused, ended, walk, walk_on, whole}
 use Rattle.filter_text.proofs.Takes.{from, Behind, condition-runs, path-runs}
 use Rattle.filter_text.proofs.Sound.{MachineOk, ResultOk, EndOk, PathOk, step-sound, end-sound, path-sound, completes, beginning-ok}
 
@@ -42,7 +42,7 @@ sentence-found ts m c e is =
     let same : from w.state [] ≡ m = (let both : Some (from w.state []) ≡ Some m = sym w.runs ∙ e in cc) in
     subst P same w.reads
 
-sentence-part : (m : Machine) (ts : List Symbol) (c : Condition) → MachineOk m ts → sentence_of m ≡ Some c → IsCondition ts c
+pub sentence-part : (m : Machine) (ts : List Symbol) (c : Condition) → MachineOk m ts → sentence_of m ≡ Some c → IsCondition ts c
 sentence-part m ts c ok e = by_stack m.state m.stack ok e
   where
     by_stack : (state : State) (stack : List Opening) → MachineOk (from state stack) ts → sentence_of (from state stack) ≡ Some c → IsCondition ts c
@@ -51,11 +51,7 @@ sentence-part m ts c ok e = by_stack m.state m.stack ok e
         subst (λ (x : List Symbol). IsCondition x c) (sym same) (let P : Option Condition → Type 0 = λ o. EndOk o ss in subst P h (end-sound state ss is))
     by_stack state (o ∷ os) k h = absurd (let bad : ⊥ = cc in bad)
 
-pub path_of_machine : Machine → Option Path
-path_of_machine m = elim m.stack [ [] ↦ path_read m.state | o ∷ os ↦ None ]
-
 pub path-part : (m : Machine) (ts : List Symbol) (p : Path) → MachineOk m ts → path_of_machine m ≡ Some p → IsPath ts p
-unfolding path_of_machine
 path-part m ts p ok e = by_stack m.state m.stack ok e
   where
     by_stack : (state : State) (stack : List Opening) → MachineOk (from state stack) ts → path_of_machine (from state stack) ≡ Some p → IsPath ts p
@@ -65,7 +61,6 @@ path-part m ts p ok e = by_stack m.state m.stack ok e
     by_stack state (o ∷ os) k h = absurd (let bad : ⊥ = cc in bad)
 
 pub path-found : (ts : List Symbol) (m : Machine) (p : Path) → run ts beginning ≡ Some m → IsPath ts p → path_of_machine m ≡ Some p
-unfolding path_of_machine
 path-found ts m p e is =
     let r = path-runs ts p nothing_read [] is in
     let runs : run ts beginning ≡ Some (from r.0 []) = ap (λ x. run x beginning) (sym (append-nil ts)) ∙ r.2 [] in

@@ -10,3 +10,5 @@ pub mod Machine
 pub mod Scan
 pub mod TokenView
 pub mod MachineView
+pub mod Phases
+pub mod SentenceView

@@ -1,5 +1,5 @@
 -- A machine that reads symbols from the front, as long as some sentence goes on with them, and keeps what it has read.
-use Rattle.std.specs.Prelude.{ℕ, ◌||◌, ◌&&◌, is_none, if◌then◌else◌, Bool, true, false, List, [], ◌∷◌, Option, Some, None, codes}
+use Rattle.std.specs.Prelude.{ℕ, ◌||◌, ◌&&◌, is_none, is_some, if◌then◌else◌, Bool, true, false, List, [], ◌∷◌, Option, Some, None, codes}
 use Rattle.std.specs.Str.{bytes_eq}
 use Rattle.filter_text.specs.Filter.{Text, Axis, child, descendant, Test, Comparison, Path, path, Steps, arrived, Condition, any_of, all_of, not_so, alone, Conditions, no_more, more, Operand, found, local_name}
 use Rattle.filter_text.specs.Filter as filter
@@ -213,11 +213,31 @@ sentence_of m = elim m.stack [ [] ↦ part_read m.state | o ∷ os ↦ None ]
 abbrev pub is_empty : Level → Bool
 is_empty level = is_none level.ors && is_none level.ands && is_none level.left
 
+abbrev pub path_in : Operand → Option Path
+path_in (found p) = Some p
+path_in o = None
+
 -- the path that was read, where that is all
 abbrev pub path_read : State → Option Path
 path_read (behind_step level way test cs) = if is_empty level then Some (path_to way test cs) else None
-path_read (behind_operand level (found p)) = if is_empty level then Some p else None
+path_read (behind_operand level o) = if is_empty level then path_in o else None
 path_read _ = None
+
+abbrev pub path_of_machine : Machine → Option Path
+path_of_machine m = elim m.stack [ [] ↦ path_read m.state | o ∷ os ↦ None ]
+
+-- what all tokens are: the front of a sentence, a condition, or a path
+pub data Read : Type 0 where
+  unfinished : Read
+  condition : Read
+  a_path : Path → Read
+
+abbrev pub path_or_condition : Option Path → Read
+path_or_condition None = condition
+path_or_condition (Some p) = a_path p
+
+abbrev pub read_of : Machine → Read
+read_of m = if is_some (sentence_of m) then path_or_condition (path_of_machine m) else unfinished
 
 -- what the machine ends with, or the place of the token that it refuses
 pub data Walked : Type 0 where

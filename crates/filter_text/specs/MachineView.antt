@@ -15,6 +15,7 @@ use Rattle.filter_text.specs.declared.state.State.{State as CodeState}
 use Rattle.filter_text.specs.declared.state.State.TheVariants as states
 use Rattle.filter_text.specs.declared.state.Opening.{Opening as CodeOpening}
 use Rattle.filter_text.specs.declared.state.Opening.TheVariants as openings
+use Rattle.filter_text.specs.declared.state.Machine.{Machine as CodeMachine}
 
 abbrev pub symbol_view : CodeSymbol → Symbol
 symbol_view (symbols.Plain t) = plain (token_view t)
@@ -55,3 +56,6 @@ stack_view stack = reverse (map opening_view stack)
 -- where a state comes next
 abbrev pub next_view : Option CodeState → List CodeOpening → Option Machine
 next_view state stack = on_stack (stack_view stack) (option_map state_view state)
+
+abbrev pub machine_view : CodeMachine → Machine
+machine_view m = record { state = state_view m.state; stack = stack_view m.stack }

@@ -111,16 +111,19 @@ pub record IsOutOfProfile (s : Text) (place : ℕ) : Type 0 where
   pub tokenized : IsTokenized s tokens end []
   pub outside : first_outside tokens ≡ Some place
 
--- the first token with which no filter or condition goes on
+-- The first token with which no filter or condition goes on, or the end of the text.
+pub record IsStop (ks : List Placed) (end place : ℕ) : Type 0 where
+  pub no_sentence : IsSentence (symbols_of ks) → ⊥
+  pub at : ℕ
+  pub within : at ≤ length ks
+  pub front : GoesOn (take at (symbols_of ks))
+  pub stops : at < length ks → GoesOn (take (at + 1) (symbols_of ks)) → ⊥
+  pub is_place : place ≡ place_of ks at end
+
 pub record HasBadSyntax (s : Text) (place : ℕ) : Type 0 where
   pub tokens : List Placed
   pub of_filters : IsOfFilters s tokens
-  pub no_sentence : IsSentence (symbols_of tokens) → ⊥
-  pub at : ℕ
-  pub within : at ≤ length tokens
-  pub front : GoesOn (take at (symbols_of tokens))
-  pub stops : at < length tokens → GoesOn (take (at + 1) (symbols_of tokens)) → ⊥
-  pub is_place : place ≡ place_of tokens at (length s)
+  pub stop : IsStop tokens (length s) place
 
 pub record IsTooDeep (s : Text) (place : ℕ) : Type 0 where
   pub tokens : List Placed

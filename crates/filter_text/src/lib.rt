@@ -13,6 +13,9 @@ mod symbol;
 mod token;
 mod combine;
 mod advance;
+mod walk;
+mod read;
 
 pub use fault::FilterFault;
+pub use read::read_path;
 pub use filter::{Axis, Comparison, Condition, Operand, Part, Path, Step, Test};

@@ -54,3 +54,10 @@ pub enum Opening {
     /// Whether `not` stands before it.
     Parenthesis(Level, bool),
 }
+
+/// What was read, with the openings that are not closed, the innermost last.
+#[derive(Drop)]
+pub struct Machine {
+    pub state: State,
+    pub stack: Items<Opening>,
+}
