@@ -165,3 +165,14 @@ rest-short s k rest e =
     let skipped = skip_blanks-sound rest in
     let parts : length rest ≡ length skipped.0 + length (skip_blanks rest) = ap length skipped.2 ∙ length-append skipped.0 (skip_blanks rest) in
     omega arith
+
+-- each token has a byte
+pub few-tokens : (ks : List Placed) (from : ℕ) (s : Text) (end : ℕ) (rest : Text) → IsCut from s ks end rest → length ks + length rest ≤ length s
+few-tokens [] from s end rest (gap, blanks, e, at, front, none) = let parts : length s ≡ length gap + length rest = ap length e ∙ length-append gap rest in omega arith
+few-tokens (k ∷ ks) from s end rest (gap, spelled, behind, blanks, e, at, is, longest, more) =
+    let begins = begins-at (spelled ++ behind) (k.token, behind) (by-longest k.token spelled behind is longest) in
+    let whole : length s ≡ (length gap + length spelled) + length behind = ap length e ∙ length-append (gap ++ spelled) behind ∙ ap (λ x. x + length behind) (length-append gap spelled) in
+    let inner : length begins.spelled + length behind ≡ length spelled + length behind = sym (length-append begins.spelled behind) ∙ ap length (sym begins.is_front) ∙ length-append spelled behind in
+    let positive = begins.some in
+    let others = few-tokens ks (from + length gap + length spelled) behind end rest more in
+    omega arith

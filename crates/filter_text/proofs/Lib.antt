@@ -9,3 +9,5 @@ pub mod CuttingSteps
 pub mod Views
 pub mod Stacks
 pub mod TokensRead
+pub mod Sizes
+pub mod Exclusion

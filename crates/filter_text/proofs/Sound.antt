@@ -118,7 +118,7 @@ or-level bs us level c base is =
         ors = record {
           empty = λ e. absurd (let bad : ⊥ = cc in bad);
           fits = λ vs d more. (let D : Condition = both_all level.ands c in
-          subst (λ (x : Condition). IsCondition (os ++ vs) x) (sym (either_all-more level.ors D d))
+              subst (λ (x : Condition). IsCondition (os ++ vs) x) (sym (either_all-more level.ors D d))
               (cast-condition (os ++ vs) (base.os ++ ((base.ns ++ us) ++ or_word ∷ vs)) (either_all level.ors (either D d)) (simp append_assoc)
               (base.ors.fits ((base.ns ++ us) ++ or_word ∷ vs) (either D d) (or (base.ns ++ us) vs D d conj more))));
         };
@@ -297,9 +297,13 @@ step-sound (not_opening level) s stack front ss ok l = tt
 step-sound (function_opening level) (plain opening_parenthesis) stack front ss ok (ls, l, e) =
     (front, ss ++ plain opening_parenthesis ∷ [], ok, (ls, l, ap (λ x. x ++ plain opening_parenthesis ∷ []) e ∙ append_assoc ls (local_name_function ∷ []) (plain opening_parenthesis ∷ [])), refl)
 step-sound (function_opening level) s stack front ss ok l = tt
-step-sound (function_closing level) (plain closing_parenthesis) stack front ss ok (ls, l, e) =
-    (front, ss ++ plain closing_parenthesis ∷ [], ok,
-      (ls, local_name_function ∷ plain opening_parenthesis ∷ plain closing_parenthesis ∷ [], l, of_function, ap (λ x. x ++ plain closing_parenthesis ∷ []) e ∙ append_assoc ls (local_name_function ∷ plain opening_parenthesis ∷ []) (plain closing_parenthesis ∷ [])), refl)
+step-sound (function_closing level) (plain closing_parenthesis) stack front ss ok (ls, l, e) = (
+  front,
+  ss ++ plain closing_parenthesis ∷ [],
+  ok,
+  (ls, local_name_function ∷ plain opening_parenthesis ∷ plain closing_parenthesis ∷ [], l, of_function, ap (λ x. x ++ plain closing_parenthesis ∷ []) e ∙ append_assoc ls (local_name_function ∷ plain opening_parenthesis ∷ []) (plain closing_parenthesis ∷ [])),
+  refl,
+)
 step-sound (function_closing level) s stack front ss ok l = tt
 step-sound (step level way) (plain at_sign) stack front ss ok (ls, ws, l, w, e) =
     (front, ss ++ plain at_sign ∷ [], ok, (ls, ws, l, w, ap (λ x. x ++ plain at_sign ∷ []) e ∙ append_assoc ls ws (plain at_sign ∷ [])), refl)
@@ -308,12 +312,20 @@ step-sound (step level way) (plain star) stack front ss ok (ls, ws, l, w, e) =
 step-sound (step level way) (plain (name n)) stack front ss ok (ls, ws, l, w, e) =
     (front, ss ++ plain (name n) ∷ [], ok, (ls, ws, plain (name n), [], l, w, of_name n, no_bracket, ap (λ x. x ++ plain (name n) ∷ []) e ∙ append_assoc ls ws (plain (name n) ∷ [])), refl)
 step-sound (step level way) s stack front ss ok l = tt
-step-sound (attribute_test level way) (plain star) stack front ss ok (ls, ws, l, w, e) =
-    (front, ss ++ plain star ∷ [], ok,
-      (ls, ws ++ plain at_sign ∷ plain star ∷ [], l, of_path _ _ (w (plain at_sign ∷ plain star ∷ []) _ (of_attribute way.axis (plain star) any of_any)), ap (λ x. x ++ plain star ∷ []) e ∙ simp append_assoc), refl)
-step-sound (attribute_test level way) (plain (name n)) stack front ss ok (ls, ws, l, w, e) =
-    (front, ss ++ plain (name n) ∷ [], ok,
-      (ls, ws ++ plain at_sign ∷ plain (name n) ∷ [], l, of_path _ _ (w (plain at_sign ∷ plain (name n) ∷ []) _ (of_attribute way.axis (plain (name n)) (filter.name n) (of_name n))), ap (λ x. x ++ plain (name n) ∷ []) e ∙ simp append_assoc), refl)
+step-sound (attribute_test level way) (plain star) stack front ss ok (ls, ws, l, w, e) = (
+  front,
+  ss ++ plain star ∷ [],
+  ok,
+  (ls, ws ++ plain at_sign ∷ plain star ∷ [], l, of_path _ _ (w (plain at_sign ∷ plain star ∷ []) _ (of_attribute way.axis (plain star) any of_any)), ap (λ x. x ++ plain star ∷ []) e ∙ simp append_assoc),
+  refl,
+)
+step-sound (attribute_test level way) (plain (name n)) stack front ss ok (ls, ws, l, w, e) = (
+  front,
+  ss ++ plain (name n) ∷ [],
+  ok,
+  (ls, ws ++ plain at_sign ∷ plain (name n) ∷ [], l, of_path _ _ (w (plain at_sign ∷ plain (name n) ∷ []) _ (of_attribute way.axis (plain (name n)) (filter.name n) (of_name n))), ap (λ x. x ++ plain (name n) ∷ []) e ∙ simp append_assoc),
+  refl,
+)
 step-sound (attribute_test level way) s stack front ss ok l = tt
 step-sound (behind_step level way test cs) (plain opening_bracket) stack front ss ok l =
     (front ++ (ss ++ plain opening_bracket ∷ []), [], (front, ss, ok, l, refl), nothing, sym (append-nil (front ++ (ss ++ plain opening_bracket ∷ []))))

@@ -126,13 +126,17 @@ mutual
 
   step-runs : (axis : Axis) (ts : List Symbol) (ss : Steps) (level : Level) (is_absolute : Bool) (front : Steps) (stack : List Opening) → IsStep axis ts ss →
       (st : State) × Behind level (found (path is_absolute (before front ss))) st × Takes (step level (way_of is_absolute front axis)) ts st stack
-  step-runs axis ts ss level is_absolute front stack (of_attribute a t test is) =
-      (behind_operand level (found (path_to_attribute (way_of is_absolute front axis) test)), inr refl,
-        λ rest. goes (attribute_test level (way_of is_absolute front axis)) t stack _ rest (attribute-runs t test level (way_of is_absolute front axis) stack is))
-  step-runs axis ts ss level is_absolute front stack (last a t test us cs is b) =
-      (behind_step level (way_of is_absolute front axis) test cs, inl (way_of is_absolute front axis, test, cs, refl, refl),
-        λ rest. goes (step level (way_of is_absolute front axis)) t stack _ (us ++ rest) (test-runs t test level (way_of is_absolute front axis) stack is)
-        ∙ bracketed-runs us cs level (way_of is_absolute front axis) test no_more stack b rest)
+  step-runs axis ts ss level is_absolute front stack (of_attribute a t test is) = (
+    behind_operand level (found (path_to_attribute (way_of is_absolute front axis) test)),
+    inr refl,
+    λ rest. goes (attribute_test level (way_of is_absolute front axis)) t stack _ rest (attribute-runs t test level (way_of is_absolute front axis) stack is),
+  )
+  step-runs axis ts ss level is_absolute front stack (last a t test us cs is b) = (
+    behind_step level (way_of is_absolute front axis) test cs,
+    inl (way_of is_absolute front axis, test, cs, refl, refl),
+    λ rest. goes (step level (way_of is_absolute front axis)) t stack _ (us ++ rest) (test-runs t test level (way_of is_absolute front axis) stack is)
+        ∙ bracketed-runs us cs level (way_of is_absolute front axis) test no_more stack b rest,
+  )
   step-runs axis ts ss level is_absolute front stack (goes_on a next t s test us others cs ends is b sep st) =
       let way = way_of is_absolute front axis in
       let r = step-runs next others ends level is_absolute (before front (filter.step axis filter.element test cs arrived)) stack st in (
@@ -190,26 +194,32 @@ mutual
       let inner = parenthesis level true ∷ stack in
       let r = condition-runs us d None inner is in
       let shut : advance r.0 (plain closing_parenthesis) inner ≡ into (behind_condition level (not_so d)) stack =
-      r.1.done.closes (plain closing_parenthesis) inner by_parenthesis ∙ ap (λ x. into (behind_condition level (not_so x)) stack) r.1.same in
-      (behind_condition level (not_so d), (None, condition-done level (not_so d)),
-        λ rest. regroup (start nothing_read) inner us (plain closing_parenthesis ∷ []) rest ∙ r.2 (plain closing_parenthesis ∷ rest) ∙ goes r.0 (plain closing_parenthesis) inner _ rest shut)
+      r.1.done.closes (plain closing_parenthesis) inner by_parenthesis ∙ ap (λ x. into (behind_condition level (not_so x)) stack) r.1.same in (
+        behind_condition level (not_so d),
+        (None, condition-done level (not_so d)),
+        λ rest. regroup (start nothing_read) inner us (plain closing_parenthesis ∷ []) rest ∙ r.2 (plain closing_parenthesis ∷ rest) ∙ goes r.0 (plain closing_parenthesis) inner _ rest shut,
+      )
   simple-runs ts c ors ands stack (grouped us d is) =
       let level = level_of ors ands None in
       let inner = parenthesis level false ∷ stack in
       let r = condition-runs us d None inner is in
       let shut : advance r.0 (plain closing_parenthesis) inner ≡ into (behind_condition level d) stack =
-      r.1.done.closes (plain closing_parenthesis) inner by_parenthesis ∙ ap (λ x. into (behind_condition level x) stack) r.1.same in
-      (behind_condition level d, (None, condition-done level d),
-        λ rest. regroup (start nothing_read) inner us (plain closing_parenthesis ∷ []) rest ∙ r.2 (plain closing_parenthesis ∷ rest) ∙ goes r.0 (plain closing_parenthesis) inner _ rest shut)
+      r.1.done.closes (plain closing_parenthesis) inner by_parenthesis ∙ ap (λ x. into (behind_condition level x) stack) r.1.same in (
+        behind_condition level d,
+        (None, condition-done level d),
+        λ rest. regroup (start nothing_read) inner us (plain closing_parenthesis ∷ []) rest ∙ r.2 (plain closing_parenthesis ∷ rest) ∙ goes r.0 (plain closing_parenthesis) inner _ rest shut,
+      )
   simple-runs ts c ors ands stack (operand us o is) =
       let r = operand-runs us o (level_of ors ands None) stack is in
       (r.0, (None, operand-done (level_of ors ands None) o r.0 r.1), r.2)
   simple-runs ts c ors ands stack (grammar.compared us vs s how a b is comparison others) =
       let r = operand-runs us a (level_of ors ands None) stack is in
       let left : Option Left = Some (record { operand = a; comparison = how }) in
-      let q = operand-runs vs b (level_of ors ands left) stack others in
-      (q.0, (left, operand-done (level_of ors ands left) b q.0 q.1),
-        λ rest. regroup (start (level_of ors ands None)) stack us (s ∷ vs) rest ∙ r.2 (s ∷ vs ++ rest) ∙ goes r.0 s stack _ (vs ++ rest) (compares s how ors ands a r.0 stack comparison r.1) ∙ q.2 rest)
+      let q = operand-runs vs b (level_of ors ands left) stack others in (
+        q.0,
+        (left, operand-done (level_of ors ands left) b q.0 q.1),
+        λ rest. regroup (start (level_of ors ands None)) stack us (s ∷ vs) rest ∙ r.2 (s ∷ vs ++ rest) ∙ goes r.0 s stack _ (vs ++ rest) (compares s how ors ands a r.0 stack comparison r.1) ∙ q.2 rest,
+      )
 
   operand-runs : (ts : List Symbol) (o : Operand) (level : Level) (stack : List Opening) → IsOperand ts o → (st : State) × Behind level o st × Takes (start level) ts st stack
   operand-runs ts o level stack (of_path us p is) = path-runs us p level stack is

@@ -231,6 +231,7 @@ literal-sound quote s q blank = by_end (byte_at quote (drop n s)) refl
   where
     n : ℕ
     n = prefix_len (is_other_than quote) s
+
     by_end : (o : Option Text) → byte_at quote (drop (prefix_len (is_other_than quote) s) s) ≡ o → SoundAt (quote ∷ s) (literal_in (take (prefix_len (is_other_than quote) s) s) o)
     by_end None h = tt
     by_end (Some rest) h =
@@ -257,15 +258,20 @@ other-sound b s =
   where
     P : Option (Token × Text) → Type 0
     P = SoundAt (b ∷ s)
+
     move : (n : ℕ) → b ≡ n → (o : Option (Token × Text)) → SoundAt (n ∷ s) o → SoundAt (b ∷ s) o
     move n e o h = subst (λ (x : ℕ). SoundAt (x ∷ s) o) (sym e) h
+
     quote-of : (c : ℕ) → (c == 34 || c == 39) ≡ true → IsQuote c
     quote-of c e = elim (either-of (c == 34) (c == 39) e) [ inl f ↦ inl (eqb-true c 34 f) | inr f ↦ inr (eqb-true c 39 f) ]
+
     quote-blank : (c : ℕ) → (c == 34 || c == 39) ≡ true → is_blank c ≡ false
     quote-blank c e = grind (arith, nat_tests)
+
     point-or : (f : Text) → AreDigits f → IsForeign (46 ∷ f)
     point-or [] all = point
     point-or (d ∷ f) all = decimal [] (d ∷ f) refl all (omega arith)
+
     compared-sound : (c : ℕ) → ((c == 60) ≡ true) ⊎ ((c == 62) ≡ true) → SoundAt (c ∷ s) (or_longer (byte_at 61 s) foreign foreign s)
     compared-sound c (inl e) = subst (λ (x : ℕ). SoundAt (x ∷ s) (or_longer (byte_at 61 s) foreign foreign s)) (sym (eqb-true c 60 e)) (longer-sound 60 61 foreign foreign s s at_most [] refl less refl)
     compared-sound c (inr e) = subst (λ (x : ℕ). SoundAt (x ∷ s) (or_longer (byte_at 61 s) foreign foreign s)) (sym (eqb-true c 62 e)) (longer-sound 62 61 foreign foreign s s at_least [] refl greater refl)
@@ -306,8 +312,10 @@ number-sound b s h = by_rest (behind_digits (b ∷ s)) (digits-split (b ∷ s))
   where
     front : Text
     front = take (prefix_len is_ascii_digit (b ∷ s)) (b ∷ s)
+
     some-digits : 0 < length (take (prefix_len is_ascii_digit (b ∷ s)) (b ∷ s))
     some-digits = let size : prefix_len is_ascii_digit (b ∷ s) ≡ suc (prefix_len is_ascii_digit s) = rw h (omega arith) in let P : ℕ → Type 0 = λ k. 0 < length (take k (b ∷ s)) in subst P (sym size) (omega arith)
+
     by_rest : (r : Text) → b ∷ s ≡ take (prefix_len is_ascii_digit (b ∷ s)) (b ∷ s) ++ r → SoundAt (b ∷ s) (Some (foreign, behind_fraction r))
     by_rest [] e =
         record { spelled = take (prefix_len is_ascii_digit (b ∷ s)) (b ∷ s); is_front = e; is_spelled = digits _ (list_all-run is_ascii_digit (b ∷ s)) some-digits; some = some-digits; no_blank = digit-blank b h }

@@ -22,7 +22,7 @@ symbols-length [] = refl
 symbols-length (k ∷ ks) = ap suc (symbols-length ks)
 
 -- a front of a sentence goes on
-front-goes_on : (ts : List Symbol) (n : ℕ) → GoesOn ts → GoesOn (take n ts)
+pub front-goes_on : (ts : List Symbol) (n : ℕ) → GoesOn ts → GoesOn (take n ts)
 front-goes_on ts n (rest, (c, is)) =
     (drop n ts ++ rest, (c, subst (λ (x : List Symbol). IsCondition x c) (ap (λ x. x ++ rest) (sym (take-append-drop n ts)) ∙ append_assoc (take n ts) (drop n ts) rest) is))
 

@@ -5,7 +5,10 @@ ghost use Rattle.filter_text.specs.Machine.{advance as moves, begin, behind as b
 ghost use Rattle.filter_text.specs.View.{comparison_of, condition_of, operand_of, test_of};
 ghost use Rattle.filter_text.specs.MachineView.{conditions_view, left_view, level_view, next_view, stack_view, state_view, symbol_view, way_view};
 
-use crate::combine::{absolute, and_level, compared, negated_or_not, next_step, nothing_read, or_level, path_to, path_to_attribute, relative, whole, with_condition};
+use crate::combine::{
+    absolute, and_level, compared, negated_or_not, next_step, nothing_read, or_level, path_to,
+    path_to_attribute, relative, whole, with_condition,
+};
 use crate::filter::{Axis, Comparison, Condition, Operand, Test};
 use crate::state::{Left, Level, Opening, State, Way};
 use crate::symbol::Symbol;

@@ -4,18 +4,19 @@
 //! What a path names in a document is told elsewhere.
 #![tactic(auto)]
 
+mod advance;
 mod characters;
+mod combine;
 mod fault;
 mod filter;
+pub mod laws;
+mod read;
 mod scan;
 mod state;
 mod symbol;
 mod token;
-mod combine;
-mod advance;
 mod walk;
-mod read;
 
 pub use fault::FilterFault;
-pub use read::read_path;
 pub use filter::{Axis, Comparison, Condition, Operand, Part, Path, Step, Test};
+pub use read::read_path;

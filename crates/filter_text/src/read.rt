@@ -1,7 +1,6 @@
 //! A filter's text as a path, or why it is none.
 
 ghost use Rattle.std.specs.Prelude.{◌≡◌, ◌≤◌, ◌<◌, IfErr, IfOk, IsTrue, MatchResult, length};
-ghost use Rattle.filter_text.specs.Filter.{path as a_path};
 ghost use Rattle.filter_text.specs.Machine.{beginning, walk as walked};
 ghost use Rattle.filter_text.specs.Phases.{IsRead, ReadsTokens, RefusesTokens, StopsWalk};
 ghost use Rattle.filter_text.specs.SentenceView.{sentence_view};
@@ -69,6 +68,7 @@ fn read_tokens(alloc: Global, tokens: &[Placed<'_>], end: usize) -> Result<Path,
 pub fn read_path(alloc: Global, text: &str) -> Result<Path, FilterFault>
     ensures reads { IfOk result (λ p. Reads (path_of p) text.now) }
     ensures refuses { IfErr result (λ fault. Refuses text.now fault) }
+    ensures small { IfOk result (λ p. IsSmall (path_of p)) }
     ensures absolute { IfOk result (λ p. IsTrue (out-Path p).is_absolute) }
 {
     if text.is_empty() {
