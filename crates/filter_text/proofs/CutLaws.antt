@@ -1,5 +1,5 @@
 -- Cutting by the reader is the cut of a text, and there is only one.
-use Rattle.std.proofs.Common.{◌≡◌, ◌≢◌, ℕ, zero, suc, ◌+◌, ◌-◌, ◌<◌, ◌≤◌, Bool, true, false, cond, List, [], ◌∷◌, ◌++◌, length, Option, Some, None, refl, sym, ◌∙◌, ap, subst, append_assoc, length-append, arith}
+use Rattle.std.proofs.Common.{◌≡◌, ◌≢◌, ℕ, zero, suc, ◌+◌, ◌-◌, ◌≤◌, true, false, cond, List, [], ◌∷◌, ◌++◌, length, Option, Some, None, refl, sym, ◌∙◌, ap, subst, append_assoc, length-append, arith}
 use Rattle.std.specs.Prelude.{slice_index}
 use Rattle.std.specs.List.{prefix_len}
 use Rattle.xml_lexer.specs.Characters.{is_blank}
@@ -8,7 +8,6 @@ use Rattle.xml_lexer.proofs.NameLaws.{skip_blanks-complete, skip_blanks-sound}
 use Rattle.filter_text.specs.Filter.{Text}
 use Rattle.filter_text.specs.Token.{Token, Placed, IsSpelled, IsLongest, AreBlanks, IsCut}
 use Rattle.filter_text.specs.Scan.{token_at, placed_before, tokens_at, cut_of}
-use Rattle.filter_text.proofs.Suffixes.{Suffix}
 use Rattle.filter_text.proofs.TokenLaws.{Found, finds, Begins, SoundAt, token-sound}
 
 no-token : token_at [] ≡ None

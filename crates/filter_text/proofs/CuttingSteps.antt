@@ -1,5 +1,5 @@
 -- One step of cutting, where tokens were read before.
-use Rattle.std.proofs.Common.{◌≡◌, ◌++◌, ◌-◌, ◌≤◌, ℕ, zero, suc, List, [], ◌∷◌, length, Some, None, refl, sym, ◌∙◌, ap, append_assoc, append-nil, arith}
+use Rattle.std.proofs.Common.{◌≡◌, ◌++◌, ◌-◌, ℕ, zero, suc, List, [], ◌∷◌, length, Some, None, refl, sym, ◌∙◌, ap, append_assoc, append-nil}
 use Rattle.xml_lexer.specs.Scan.{skip_blanks}
 use Rattle.filter_text.specs.Filter.{Text}
 use Rattle.filter_text.specs.Token.{Token, Placed}

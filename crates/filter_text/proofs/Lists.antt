@@ -1,5 +1,5 @@
 -- Lists of conditions and steps, end to end.
-use Rattle.std.proofs.Common.{◌≡◌, refl, sym, ◌∙◌, ap, Option, Some, None}
+use Rattle.std.proofs.Common.{◌≡◌, refl, ap, Option, Some, None}
 use Rattle.filter_text.specs.Filter.{Condition, any_of, all_of, Conditions, no_more, more, Steps, arrived, step}
 use Rattle.filter_text.specs.Grammar.{joined, either, both, either_list, both_list}
 use Rattle.filter_text.specs.Machine.{before, or_none, either_all, both_all}

@@ -1,8 +1,7 @@
 -- The stack of the code, the innermost opening last.
-use Rattle.std.proofs.Common.{◌≡◌, ℕ, Option, None, refl, sym, ◌∙◌, ap, List, [], ◌∷◌, ◌++◌, length, map, reverse, arith}
+use Rattle.std.proofs.Common.{◌≡◌, None, refl, ◌∙◌, ap, List, [], ◌∷◌, ◌++◌, length, map, arith}
 use Rattle.std.proofs.lemmas.List.{map-append, reverse-append, length-reverse, length-map}
-use Rattle.filter_text.specs.Filter.{Condition, Path}
-use Rattle.filter_text.specs.Machine.{Opening, State, Machine, sentence_of, path_of_machine}
+use Rattle.filter_text.specs.Machine.{Opening, State, sentence_of, path_of_machine}
 use Rattle.filter_text.specs.MachineView.{opening_view, stack_view}
 use Rattle.filter_text.specs.declared.state.Opening.{Opening as CodeOpening}
 

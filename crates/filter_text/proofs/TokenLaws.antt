@@ -1,5 +1,5 @@
 -- The reader of tokens finds the longest token at the front of a text.
-use Rattle.std.proofs.Common.{◌≡◌, ◌≢◌, ◌⊎◌, inl, inr, ℕ, zero, suc, ◌+◌, ◌-◌, ◌<◌, ◌≤◌, ◌==◌, ◌&&◌, ◌||◌, Bool, true, false, cond, not, List, [], ◌∷◌, ◌++◌, length, take, drop, Option, Some, None, refl, sym, ◌∙◌, ap, subst, append_assoc, append-nil, length-append, eqb-true, eq-eqb, arith}
+use Rattle.std.proofs.Common.{◌≡◌, ◌⊎◌, inl, inr, ℕ, zero, suc, ◌+◌, ◌<◌, ◌==◌, ◌||◌, Bool, true, false, cond, [], ◌∷◌, ◌++◌, length, take, drop, Option, Some, None, refl, sym, ◌∙◌, ap, subst, append_assoc, append-nil, length-append, eqb-true, eq-eqb, arith}
 use Rattle.std.specs.Prelude.{codes, option_map, slice_index}
 use Rattle.std.specs.List.{list_all, prefix_len}
 use Rattle.std.specs.Char.{is_ascii_digit}
@@ -8,10 +8,9 @@ use Rattle.std.proofs.lemmas.Bool.Decides.{nat_tests}
 use Rattle.std.proofs.lemmas.List.{take-append-drop}
 use Rattle.xml_lexer.specs.Characters.{is_xml_character, is_blank, is_name_byte, starts_name, is_name}
 use Rattle.xml_lexer.specs.Scan.{byte_at}
-use Rattle.xml_lexer.proofs.Runs.{both, take-run, drop-run, list_all-run, prefix_len-behind, byte_at-some, byte_at-cons}
-use Rattle.xml_lexer.proofs.NameLaws.{blank_cases}
+use Rattle.xml_lexer.proofs.Runs.{both, take-run, drop-run, list_all-run, byte_at-some, byte_at-cons}
 use Rattle.filter_text.specs.Filter.{Text}
-use Rattle.filter_text.specs.Token.{Token, slash, double_slash, opening_bracket, closing_bracket, opening_parenthesis, closing_parenthesis, at_sign, star, equals, differs, name, literal, foreign, is_other_than, IsQuote, AreDigits, IsForeign, digits, decimal, point, two_points, two_colons, colon, dollar, less, at_most, greater, at_least, plus, minus, bar, comma, IsSpelled, IsLongest}
+use Rattle.filter_text.specs.Token.{Token, slash, double_slash, opening_bracket, closing_bracket, opening_parenthesis, closing_parenthesis, at_sign, star, equals, differs, name, literal, foreign, is_other_than, IsQuote, AreDigits, IsForeign, digits, decimal, point, two_points, two_colons, colon, dollar, less, at_most, greater, at_least, plus, minus, bar, comma, IsSpelled}
 use Rattle.filter_text.specs.Scan.{behind_digits, behind_fraction, literal_in, literal_at, name_at, single, or_longer, other_at, single_or, mark_at, token_at}
 use Rattle.filter_text.proofs.Suffixes.{Suffix, suffix-refl, suffix-trans, suffix-tail, suffix-drop, prefix_len-more, drop-more, take-more}
 

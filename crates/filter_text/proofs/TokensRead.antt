@@ -1,21 +1,20 @@
 -- What the walk over the tokens says of them.
-use Rattle.std.proofs.Common.{◌≡◌, ◌⊎◌, inl, inr, ℕ, zero, suc, ◌+◌, ◌-◌, ◌<◌, ◌≤◌, Bool, true, false, List, [], ◌∷◌, ◌++◌, length, take, drop, Option, Some, None, refl, sym, ◌∙◌, ap, subst, append_assoc, append-nil, add-one, length-append, eqb-true, arith}
-use Rattle.std.specs.Prelude.{slice_get, is_some, cond, nat_eq}
+use Rattle.std.proofs.Common.{◌≡◌, ℕ, suc, ◌-◌, ◌<◌, ◌≤◌, Bool, true, false, List, [], ◌∷◌, ◌++◌, length, take, drop, Option, Some, None, refl, sym, ◌∙◌, ap, subst, append_assoc, append-nil, add-one, eqb-true, arith}
+use Rattle.std.specs.Prelude.{is_some, cond, nat_eq}
 use Rattle.std.proofs.lemmas.List.{take-append-drop}
-use Rattle.xml_lexer.proofs.Runs.{both}
 use Rattle.filter_text.specs.Filter.{Text, Path, Condition}
 use Rattle.filter_text.specs.Token.{Placed, IsCut}
-use Rattle.filter_text.specs.Grammar.{Symbol, IsPath, IsCondition, conjunct, simple, operand, of_path}
-use Rattle.filter_text.specs.Reading.{symbols_of, place_of, first_outside, first_too_deep, at_document, IsSentence, GoesOn, IsStop, IsTokenized, IsOfFilters, Reads, HasBadToken, IsOutOfProfile, HasBadSyntax, IsTooDeep, IsNoPath}
+use Rattle.filter_text.specs.Grammar.{Symbol, IsPath, IsCondition}
+use Rattle.filter_text.specs.Reading.{symbols_of, place_of, first_outside, IsSentence, GoesOn, IsStop, IsTokenized, IsOfFilters, Reads, HasBadToken}
 use Rattle.filter_text.specs.Refusal.{Refuses}
 use Rattle.filter_text.specs.Phases.{ReadsTokens, RefusesTokens, IsRead, StopsWalk}
 use Rattle.filter_text.specs.Scan.{cut_of}
-use Rattle.filter_text.specs.Machine.{Machine, beginning, run, sentence_of, path_of_machine, Walked, refused, ended, walk, Read, unfinished, condition, a_path, path_or_condition, read_of}
+use Rattle.filter_text.specs.Machine.{Machine, beginning, sentence_of, path_of_machine, Walked, refused, ended, walk, unfinished, path_or_condition}
 use Rattle.filter_text.specs.declared.fault.FilterFault.{FilterFault}
 use Rattle.filter_text.specs.declared.fault.FilterFault.TheVariants.{Length, BadToken, OutOfProfile, Syntax, TooDeep, NotPath, NoMemory}
-use Rattle.filter_text.proofs.Sound.{MachineOk, completes, beginning-ok}
-use Rattle.filter_text.proofs.Walks.{stopped, sentence-found, sentence-part, path-part, path-found, one_path, walk-refused, walk-ended}
-use Rattle.filter_text.proofs.CutLaws.{cut-of, is-cut, one-cut}
+use Rattle.filter_text.proofs.Sound.{completes, beginning-ok}
+use Rattle.filter_text.proofs.Walks.{stopped, sentence-found, sentence-part, path-part, path-found, walk-refused, walk-ended}
+use Rattle.filter_text.proofs.CutLaws.{cut-of, is-cut}
 
 symbols-length : (ks : List Placed) → length (symbols_of ks) ≡ length ks
 symbols-length [] = refl

@@ -1,6 +1,6 @@
 -- The data of a filter, one level at a time.
 use Rattle.std.proofs.Common.{◌≡◌, ℕ, refl, sym, ◌∙◌, ap, List, [], ◌∷◌, ◌++◌, map}
-use Rattle.filter_text.specs.Filter.{Path, path, Steps, step, Condition, any_of, all_of, not_so, alone, compare, Conditions, more, Operand, found, literal, local_name}
+use Rattle.filter_text.specs.Filter.{Path, path, step, Condition, any_of, all_of, not_so, alone, compare, more, Operand, found, literal, local_name}
 use Rattle.filter_text.specs.Grammar.{joined}
 use Rattle.filter_text.specs.Machine.{before}
 use Rattle.filter_text.specs.MachineView.{conditions_view}

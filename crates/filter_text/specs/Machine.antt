@@ -1,5 +1,5 @@
 -- A machine that reads symbols from the front, as long as some sentence goes on with them, and keeps what it has read.
-use Rattle.std.specs.Prelude.{ℕ, ◌||◌, ◌&&◌, is_none, is_some, if◌then◌else◌, Bool, true, false, List, [], ◌∷◌, Option, Some, None, codes}
+use Rattle.std.specs.Prelude.{ℕ, ◌&&◌, is_none, is_some, if◌then◌else◌, Bool, true, false, List, [], ◌∷◌, Option, Some, None, codes}
 use Rattle.std.specs.Str.{bytes_eq}
 use Rattle.filter_text.specs.Filter.{Text, Axis, child, descendant, Test, Comparison, Path, path, Steps, arrived, Condition, any_of, all_of, not_so, alone, Conditions, no_more, more, Operand, found, local_name}
 use Rattle.filter_text.specs.Filter as filter

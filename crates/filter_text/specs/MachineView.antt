@@ -1,5 +1,5 @@
 -- The states of the code as those of the machine.
-use Rattle.std.specs.Prelude.{◌≡◌, List, map, reverse, Option, Some, None, option_map}
+use Rattle.std.specs.Prelude.{List, map, reverse, Option, option_map}
 use Rattle.filter_text.specs.Filter.{Conditions}
 use Rattle.filter_text.specs.Grammar.{Symbol, plain, not_function, local_name_function}
 use Rattle.filter_text.specs.Machine.{Left, Level, Way, State, start, not_opening, function_opening, function_closing, step, attribute_test, behind_step, behind_operand, behind_condition, Opening, bracket, parenthesis, Machine, on_stack}

@@ -1,5 +1,5 @@
 -- What the phases behind the cutting say of the tokens alone.
-use Rattle.std.specs.Prelude.{◌≡◌, ℕ, List, Option, Some, None}
+use Rattle.std.specs.Prelude.{◌≡◌, ℕ, List, Some, None}
 use Rattle.filter_text.specs.Filter.{Path}
 use Rattle.filter_text.specs.Token.{Placed}
 use Rattle.filter_text.specs.Grammar.{IsPath}

@@ -1,5 +1,5 @@
 -- The filter as data of a filter in the code.
-use Rattle.std.specs.Prelude.{List, [], ◌∷◌, map, Bool}
+use Rattle.std.specs.Prelude.{List, [], ◌∷◌, map}
 use Rattle.filter_text.specs.Filter.{Axis, child, descendant, Part, element, attribute, Test, any, name, Comparison, equal, differs, Path, path, Steps, arrived, step, Condition, any_of, all_of, not_so, alone, compare, Conditions, no_more, more, Operand, found, literal, local_name}
 use Rattle.filter_text.specs.declared.filter.Axis.{Axis as CodeAxis}
 use Rattle.filter_text.specs.declared.filter.Axis.TheVariants as axes

@@ -1,6 +1,5 @@
 use Rattle.std.proofs.Common.{◌≡◌, ◌+◌, ◌-◌, ◌≤◌, length, drop}
 use Rattle.std.specs.List.{prefix_len}
-use Rattle.std.specs.Str.{IsCharBoundary}
 use Rattle.xml_lexer.specs.Characters.{is_name_byte}
 use Rattle.filter_text.proofs.characters.name_len.Given as goal
 

@@ -1,6 +1,5 @@
 use Rattle.std.proofs.Common.{◌≡◌, ◌+◌, ◌-◌, ◌≤◌, length, drop}
 use Rattle.std.specs.List.{prefix_len}
-use Rattle.std.specs.Str.{IsCharBoundary}
 use Rattle.filter_text.specs.Token.{is_other_than}
 use Rattle.filter_text.proofs.characters.value_len.Given as goal
 
