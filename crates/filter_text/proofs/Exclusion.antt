@@ -3,16 +3,16 @@ use Rattle.std.proofs.Common.{◌≡◌, ◌⊎◌, inl, inr, ℕ, zero, suc, �
 use Rattle.std.specs.Prelude.{nat_eq, nat_lt, is_some}
 use Rattle.std.proofs.lemmas.Bool.Decides.{nat_tests}
 use Rattle.filter_text.specs.Filter.{Text, Path, path, Condition}
-use Rattle.filter_text.specs.Token.{Placed}
+use Rattle.filter_tokens.specs.Token.{Placed}
 use Rattle.filter_text.specs.Grammar.{Symbol, IsPath, IsCondition, conjunct, simple, operand, of_path}
 use Rattle.filter_text.specs.Reading.{symbols_of, first_outside, first_too_deep, at_document, place_of, IsSentence, GoesOn, IsStop, IsTokenized, IsOfFilters, Reads}
 use Rattle.filter_text.specs.Refusal.{Refuses}
 use Rattle.filter_text.specs.Size.{IsSmall, size_of_path, steps_in_path}
-use Rattle.filter_text.specs.Scan.{cut_of}
+use Rattle.filter_tokens.specs.Scan.{cut_of}
 use Rattle.filter_text.specs.Machine.{Machine, beginning, sentence_of, path_of_machine, Walked, refused, ended, walk}
 use Rattle.filter_text.specs.declared.fault.FilterFault.{FilterFault}
 use Rattle.filter_text.specs.declared.fault.FilterFault.TheVariants.{Length, BadToken, OutOfProfile, Syntax, TooDeep, NotPath, NoMemory}
-use Rattle.filter_text.proofs.CutLaws.{is-cut, one-cut, few-tokens}
+use Rattle.filter_tokens.proofs.CutLaws.{is-cut, one-cut, few-tokens}
 use Rattle.filter_text.proofs.Walks.{one_path, sentence-found, path-found, walk-ended}
 use Rattle.filter_text.proofs.Sound.{beginning-ok}
 use Rattle.filter_text.proofs.Sizes.{path-fits}

@@ -2,10 +2,6 @@ pub mod Lists
 pub mod Takes
 pub mod Sound
 pub mod Walks
-pub mod Suffixes
-pub mod TokenLaws
-pub mod CutLaws
-pub mod CuttingSteps
 pub mod Views
 pub mod Stacks
 pub mod TokensRead

@@ -1,7 +1,7 @@
 -- A filter of few tokens is small.
 use Rattle.std.proofs.Common.{◌≡◌, ℕ, ◌+◌, ◌*◌, ◌≤◌, List, [], ◌∷◌, ◌++◌, length, refl, length-append, arith}
 use Rattle.filter_text.specs.Filter.{Axis, Path, Steps, Condition, any_of, all_of, not_so, alone, compare, Conditions, no_more, more, Operand}
-use Rattle.filter_text.specs.Token.{closing_bracket, closing_parenthesis}
+use Rattle.filter_tokens.specs.Token.{closing_bracket, closing_parenthesis}
 use Rattle.filter_text.specs.Grammar.{Symbol, plain, and_word, or_word, joined, either_list, both_list, IsPath, from_document, from_element, IsStep, of_attribute, last, goes_on, AreBracketed, no_bracket, bracket, IsCondition, conjunct, or, IsConjunct, simple, and, IsSimple, negated, grouped, operand, compared, IsOperand, of_path, of_literal, of_function}
 use Rattle.filter_text.specs.Size.{size_of_path, size_of_steps, size_of_conditions, size_of_condition, size_of_operand, steps_in_path, steps_in_steps, steps_in_conditions, steps_in_condition, steps_in_operand}
 

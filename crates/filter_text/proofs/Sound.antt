@@ -6,7 +6,7 @@ use Rattle.std.specs.Str.{bytes_eq}
 use Rattle.std.specs.Cmp.Lexicographic.{bytes_decides}
 use Rattle.filter_text.specs.Filter.{Text, Axis, child, Path, path, Steps, arrived, Condition, not_so, Conditions, no_more, more, Operand, found, local_name, Test, any, Comparison}
 use Rattle.filter_text.specs.Filter as filter
-use Rattle.filter_text.specs.Token.{slash, double_slash, opening_bracket, closing_bracket, opening_parenthesis, closing_parenthesis, at_sign, star, equals, differs, name, literal}
+use Rattle.filter_tokens.specs.Token.{slash, double_slash, opening_bracket, closing_bracket, opening_parenthesis, closing_parenthesis, at_sign, star, equals, differs, name, literal}
 use Rattle.filter_text.specs.Grammar.{Symbol, plain, not_function, local_name_function, and_word, or_word, joined, either, both, either_list, both_list, IsSeparator, to_children, to_descendants, IsTest, of_name, of_any, IsComparison, is_equal, is_different, IsPath, from_document, from_element, IsStep, of_attribute, last, goes_on, AreBracketed, no_bracket, bracket, IsCondition, conjunct, or, IsConjunct, simple, and, IsSimple, negated, grouped, operand, IsOperand, of_path, of_literal, of_function}
 use Rattle.filter_text.specs.Grammar as grammar
 use Rattle.filter_text.specs.Reading.{GoesOn}

@@ -2,7 +2,7 @@
 use Rattle.std.proofs.Common.{◌≡◌, ◌⊎◌, inl, inr, Bool, true, false, List, [], ◌∷◌, ◌++◌, Option, Some, None, refl, sym, ◌∙◌, ap, subst, append_assoc}
 use Rattle.filter_text.specs.Filter.{Text, Axis, child, descendant, Path, path, Steps, arrived, Condition, not_so, alone, Conditions, no_more, more, Operand, found, local_name, Test, Comparison}
 use Rattle.filter_text.specs.Filter as filter
-use Rattle.filter_text.specs.Token.{closing_bracket, closing_parenthesis, equals, differs}
+use Rattle.filter_tokens.specs.Token.{closing_bracket, closing_parenthesis, equals, differs}
 use Rattle.filter_text.specs.Grammar.{Symbol, plain, not_function, local_name_function, and_word, or_word, joined, either, both, either_list, both_list, IsSeparator, to_children, to_descendants, IsTest, of_name, of_any, IsComparison, is_equal, is_different, IsPath, from_document, from_element, IsStep, of_attribute, last, goes_on, AreBracketed, no_bracket, bracket, IsCondition, conjunct, or, IsConjunct, simple, and, IsSimple, negated, grouped, operand, IsOperand, of_path, of_literal, of_function}
 use Rattle.filter_text.specs.Grammar as grammar
 use Rattle.filter_text.specs.Machine.{Left, Level, Way, State, start, not_opening, function_opening, function_closing, step, attribute_test, behind_step, behind_operand, behind_condition, Opening, parenthesis, Machine, into, nothing_read, before, or_none, either_all, both_all, whole, compared, path_to, path_to_attribute, relative, absolute, next_step, close, advance, and_then, run, part_read}

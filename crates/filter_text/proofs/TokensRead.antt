@@ -3,18 +3,18 @@ use Rattle.std.proofs.Common.{◌≡◌, ℕ, suc, ◌-◌, ◌<◌, ◌≤◌, 
 use Rattle.std.specs.Prelude.{is_some, cond, nat_eq}
 use Rattle.std.proofs.lemmas.List.{take-append-drop}
 use Rattle.filter_text.specs.Filter.{Text, Path, Condition}
-use Rattle.filter_text.specs.Token.{Placed, IsCut}
+use Rattle.filter_tokens.specs.Token.{Placed, IsCut}
 use Rattle.filter_text.specs.Grammar.{Symbol, IsPath, IsCondition}
 use Rattle.filter_text.specs.Reading.{symbols_of, place_of, first_outside, IsSentence, GoesOn, IsStop, IsTokenized, IsOfFilters, Reads, HasBadToken}
 use Rattle.filter_text.specs.Refusal.{Refuses}
 use Rattle.filter_text.specs.Phases.{ReadsTokens, RefusesTokens, IsRead, StopsWalk}
-use Rattle.filter_text.specs.Scan.{cut_of}
+use Rattle.filter_tokens.specs.Scan.{cut_of}
 use Rattle.filter_text.specs.Machine.{Machine, beginning, sentence_of, path_of_machine, Walked, refused, ended, walk, unfinished, path_or_condition}
 use Rattle.filter_text.specs.declared.fault.FilterFault.{FilterFault}
 use Rattle.filter_text.specs.declared.fault.FilterFault.TheVariants.{Length, BadToken, OutOfProfile, Syntax, TooDeep, NotPath, NoMemory}
 use Rattle.filter_text.proofs.Sound.{completes, beginning-ok}
 use Rattle.filter_text.proofs.Walks.{stopped, sentence-found, sentence-part, path-part, path-found, walk-refused, walk-ended}
-use Rattle.filter_text.proofs.CutLaws.{cut-of, is-cut}
+use Rattle.filter_tokens.proofs.CutLaws.{cut-of, is-cut}
 
 symbols-length : (ks : List Placed) → length (symbols_of ks) ≡ length ks
 symbols-length [] = refl

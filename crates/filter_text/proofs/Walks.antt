@@ -1,7 +1,7 @@
 -- What a walk over all tokens finds: the place where no sentence goes on, or all that was read.
 use Rattle.std.proofs.Common.{◌≡◌, inl, inr, ℕ, suc, ◌<◌, List, [], ◌∷◌, ◌++◌, length, take, Option, Some, None, refl, sym, ◌∙◌, ap, subst, append_assoc, append-nil, arith}
 use Rattle.filter_text.specs.Filter.{Path, Condition, found}
-use Rattle.filter_text.specs.Token.{Placed}
+use Rattle.filter_tokens.specs.Token.{Placed}
 use Rattle.filter_text.specs.Grammar.{Symbol, IsPath, IsCondition}
 use Rattle.filter_text.specs.Reading.{symbol_of, symbols_of, next_token, place_of, GoesOn}
 use Rattle.filter_text.specs.Machine.{State, Opening, Machine, nothing_read, beginning, advance, and_then, run, part_read, sentence_of, path_read, path_of_machine, path_to, refused, ended, walk, walk_on}

@@ -2,8 +2,8 @@
 use Rattle.std.specs.Prelude.{true, false, List, [], ◌∷◌, ◌++◌, codes}
 use Rattle.filter_text.specs.Filter.{Text, Axis, child, descendant, Part, Test, any, Comparison, equal, Path, path, Steps, arrived, step, Condition, any_of, all_of, not_so, alone, compare, Conditions, no_more, more, Operand, found, local_name}
 use Rattle.filter_text.specs.Filter as filter
-use Rattle.filter_text.specs.Token.{Token, slash, double_slash, opening_bracket, closing_bracket, opening_parenthesis, closing_parenthesis, at_sign, star, equals, literal}
-use Rattle.filter_text.specs.Token as token
+use Rattle.filter_tokens.specs.Token.{Token, slash, double_slash, opening_bracket, closing_bracket, opening_parenthesis, closing_parenthesis, at_sign, star, equals, literal}
+use Rattle.filter_tokens.specs.Token as token
 
 -- A token, or the name of a function: `not` or `local-name` before a parenthesis.
 pub data Symbol : Type 0 where

@@ -1,14 +1,11 @@
 pub mod Filter
 pub mod View
 pub mod Size
-pub mod Token
 pub mod Grammar
 pub mod Reading
 pub mod Refusal
 pub mod Writing
 pub mod Machine
-pub mod Scan
-pub mod TokenView
 pub mod MachineView
 pub mod Phases
 pub mod SentenceView

@@ -3,7 +3,7 @@ use Rattle.std.specs.Prelude.{ℕ, ◌&&◌, is_none, is_some, if◌then◌else�
 use Rattle.std.specs.Str.{bytes_eq}
 use Rattle.filter_text.specs.Filter.{Text, Axis, child, descendant, Test, Comparison, Path, path, Steps, arrived, Condition, any_of, all_of, not_so, alone, Conditions, no_more, more, Operand, found, local_name}
 use Rattle.filter_text.specs.Filter as filter
-use Rattle.filter_text.specs.Token.{slash, double_slash, opening_bracket, closing_bracket, opening_parenthesis, closing_parenthesis, at_sign, star, equals, differs, name, literal, Placed}
+use Rattle.filter_tokens.specs.Token.{slash, double_slash, opening_bracket, closing_bracket, opening_parenthesis, closing_parenthesis, at_sign, star, equals, differs, name, literal, Placed}
 use Rattle.filter_text.specs.Grammar.{Symbol, plain, not_function, local_name_function, joined, either_list, both_list}
 use Rattle.filter_text.specs.Reading.{symbol_of, next_token}
 

@@ -4,7 +4,7 @@ use Rattle.filter_text.specs.Filter.{Conditions}
 use Rattle.filter_text.specs.Grammar.{Symbol, plain, not_function, local_name_function}
 use Rattle.filter_text.specs.Machine.{Left, Level, Way, State, start, not_opening, function_opening, function_closing, step, attribute_test, behind_step, behind_operand, behind_condition, Opening, bracket, parenthesis, Machine, on_stack}
 use Rattle.filter_text.specs.View.{axis_of, test_of, comparison_of, conditions_of, condition_of, operand_of, steps_of}
-use Rattle.filter_text.specs.TokenView.{token_view}
+use Rattle.filter_tokens.specs.TokenView.{token_view}
 use Rattle.filter_text.specs.declared.filter.Condition.{Condition as CodeCondition}
 use Rattle.filter_text.specs.declared.symbol.Symbol.{Symbol as CodeSymbol}
 use Rattle.filter_text.specs.declared.symbol.Symbol.TheVariants as symbols

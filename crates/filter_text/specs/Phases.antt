@@ -1,7 +1,7 @@
 -- What the phases behind the cutting say of the tokens alone.
 use Rattle.std.specs.Prelude.{◌≡◌, ℕ, List, Some, None}
 use Rattle.filter_text.specs.Filter.{Path}
-use Rattle.filter_text.specs.Token.{Placed}
+use Rattle.filter_tokens.specs.Token.{Placed}
 use Rattle.filter_text.specs.Grammar.{IsPath}
 use Rattle.filter_text.specs.Reading.{first_outside, first_too_deep, symbols_of, at_document, IsSentence, IsStop}
 use Rattle.filter_text.specs.Machine.{Walked, refused, ended, Read, read_of}

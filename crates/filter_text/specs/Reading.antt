@@ -2,7 +2,7 @@
 use Rattle.std.specs.Prelude.{◌≡◌, ◌≢◌, ◌⊎◌, ℕ, ◌+◌, ◌-◌, ◌≤◌, ◌<◌, ◌||◌, nat_lt, if◌then◌else◌, Bool, true, false, not, List, [], ◌∷◌, ◌++◌, length, take, slice_get, Option, Some, None, codes}
 use Rattle.std.specs.Str.{bytes_eq}
 use Rattle.filter_text.specs.Filter.{Text, Path, path, Condition}
-use Rattle.filter_text.specs.Token.{Token, opening_bracket, closing_bracket, opening_parenthesis, closing_parenthesis, name, foreign, Placed, IsCut}
+use Rattle.filter_tokens.specs.Token.{Token, opening_bracket, closing_bracket, opening_parenthesis, closing_parenthesis, name, foreign, Placed, IsCut}
 use Rattle.filter_text.specs.Grammar.{Symbol, plain, not_function, local_name_function, IsPath, IsCondition}
 
 abbrev pub max_length : ℕ

@@ -12,7 +12,7 @@ use crate::combine::{
 use crate::filter::{Axis, Comparison, Condition, Operand, Test};
 use crate::state::{Left, Level, Opening, State, Way};
 use crate::symbol::Symbol;
-use crate::token::Token;
+use filter_tokens::Token;
 use sqlite_items::Items;
 use std::alloc::Global;
 use voe_values::{NoMemory, Text};

@@ -5,16 +5,13 @@
 #![tactic(auto)]
 
 mod advance;
-mod characters;
 mod combine;
 mod fault;
 mod filter;
 pub mod laws;
 mod read;
-mod scan;
 mod state;
 mod symbol;
-mod token;
 mod walk;
 
 pub use fault::FilterFault;

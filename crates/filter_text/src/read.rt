@@ -7,14 +7,13 @@ ghost use Rattle.filter_text.specs.SentenceView.{sentence_view};
 ghost use Rattle.filter_text.specs.Reading.{Reads, at_document};
 ghost use Rattle.filter_text.specs.Refusal.{Refuses};
 ghost use Rattle.filter_text.specs.Size.{IsSmall};
-ghost use Rattle.filter_text.specs.TokenView.{placed_views};
+ghost use Rattle.filter_tokens.specs.TokenView.{placed_views};
 ghost use Rattle.filter_text.specs.View.{path_of};
 ghost use Rattle.filter_text.specs.declared.filter.Path.{out-Path};
 
 use crate::fault::FilterFault;
 use crate::filter::Path;
-use crate::scan::tokens;
-use crate::token::Placed;
+use filter_tokens::{Placed, tokens};
 use crate::walk::{Sentence, first_outside, first_too_deep, into_sentence, walk};
 use std::alloc::Global;
 

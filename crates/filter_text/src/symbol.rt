@@ -3,10 +3,10 @@
 ghost use Rattle.std.specs.Prelude.{◌≡◌, ◌+◌, ◌<◌, drop, length, option_map, codes};
 ghost use Rattle.std.specs.Str.{bytes_eq};
 ghost use Rattle.filter_text.specs.Reading.{is_keyword, is_opening, is_outside, named_function, next_token, symbol_of};
-ghost use Rattle.filter_text.specs.TokenView.{placed_views, token_view};
+ghost use Rattle.filter_tokens.specs.TokenView.{placed_views, token_view};
 ghost use Rattle.filter_text.specs.MachineView.{symbol_view};
 
-use crate::token::{Placed, Token};
+use filter_tokens::{Placed, Token};
 
 /// A token, or a function's name, which stands before its parenthesis (XPath 1.0, section 3.7).
 #[derive(Clone, Copy, Debug)]

@@ -7,7 +7,7 @@ ghost use Rattle.filter_text.specs.Reading.{first_outside, first_too_deep, open_
 ghost use Rattle.filter_text.specs.View.{operand_of, path_of};
 ghost use Rattle.filter_text.specs.MachineView.{level_view, machine_view, state_view};
 ghost use Rattle.filter_text.specs.SentenceView.{sentence_view};
-ghost use Rattle.filter_text.specs.TokenView.{placed_views, token_view};
+ghost use Rattle.filter_tokens.specs.TokenView.{placed_views, token_view};
 
 use crate::advance::advance;
 use crate::combine::{nothing_read, path_to};
@@ -15,7 +15,7 @@ use crate::fault::FilterFault;
 use crate::filter::{Operand, Path};
 use crate::state::{Level, Machine, State};
 use crate::symbol::{is_outside, symbol_before, token_behind};
-use crate::token::{Placed, Token};
+use filter_tokens::{Placed, Token};
 use sqlite_items::Items;
 use std::alloc::Global;
 use voe_values::NoMemory;

@@ -1,15 +1,15 @@
 use Rattle.std.proofs.Common.{◌≡◌, ◌<◌, ◌≤◌, List, [], length, Result, Ok, Err, subst, arith}
 use Rattle.std.specs.Prelude.{IfOk, IfErr, MatchResult}
 use Rattle.filter_text.specs.Filter.{Text}
-use Rattle.filter_text.specs.Token.{Placed}
+use Rattle.filter_tokens.specs.Token.{Placed}
 use Rattle.filter_text.specs.Phases.{ReadsTokens, RefusesTokens}
 use Rattle.filter_text.specs.Reading.{Reads}
 use Rattle.filter_text.specs.Refusal.{Refuses}
-use Rattle.filter_text.specs.Scan.{cut_of}
+use Rattle.filter_tokens.specs.Scan.{cut_of}
 use Rattle.filter_text.specs.Size.{IsSmall}
-use Rattle.filter_text.specs.TokenView.{placed_views}
+use Rattle.filter_tokens.specs.TokenView.{placed_views}
 use Rattle.filter_text.specs.View.{path_of}
-use Rattle.filter_text.specs.declared.token.Placed.{Placed as CodePlaced}
+use Rattle.filter_tokens.specs.declared.token.Placed.{Placed as CodePlaced}
 use Rattle.filter_text.specs.declared.filter.Path.{Path as CodePath}
 use Rattle.filter_text.specs.declared.fault.FilterFault.{FilterFault}
 use Rattle.filter_text.proofs.TokensRead.{bad-token, reads-text, refuses-text, rest-within, some-bytes, no-bytes, not-empty}

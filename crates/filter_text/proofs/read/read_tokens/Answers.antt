@@ -1,7 +1,7 @@
 use Rattle.std.proofs.Common.{None, Some, refl, sym, ◌∙◌}
 use Rattle.filter_text.specs.Machine.{beginning, walk, unfinished, condition, a_path}
 use Rattle.filter_text.specs.Phases.{IsRead}
-use Rattle.filter_text.specs.TokenView.{placed_views}
+use Rattle.filter_tokens.specs.TokenView.{placed_views}
 use Rattle.filter_text.specs.View.{path_of}
 use Rattle.filter_text.proofs.TokensRead.{nothing-some, stops-walk, unfinished-stops, read-sentence, condition-no_path, path-is}
 use Rattle.filter_text.proofs.read.read_tokens.Goals as goal

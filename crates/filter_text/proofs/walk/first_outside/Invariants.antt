@@ -1,6 +1,6 @@
 use Rattle.std.proofs.Common.{◌≡◌, drop}
 use Rattle.filter_text.specs.Reading.{first_outside}
-use Rattle.filter_text.specs.TokenView.{placed_views}
+use Rattle.filter_tokens.specs.TokenView.{placed_views}
 use Rattle.filter_text.proofs.walk.first_outside.Given as goal
 
 abbrev pub invariant-loop-i : goal.invariant-loop-i

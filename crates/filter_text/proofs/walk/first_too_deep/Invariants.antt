@@ -1,6 +1,6 @@
 use Rattle.std.proofs.Common.{◌≡◌, ◌≤◌, drop}
 use Rattle.filter_text.specs.Reading.{first_too_deep}
-use Rattle.filter_text.specs.TokenView.{placed_views}
+use Rattle.filter_tokens.specs.TokenView.{placed_views}
 use Rattle.filter_text.proofs.walk.first_too_deep.Given as goal
 
 abbrev pub invariant-loop-placed : goal.invariant-loop-placed

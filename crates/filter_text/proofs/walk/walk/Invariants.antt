@@ -1,7 +1,7 @@
 use Rattle.std.proofs.Common.{◌≡◌, drop}
 use Rattle.filter_text.specs.Machine.{beginning, walk}
 use Rattle.filter_text.specs.MachineView.{state_view, stack_view}
-use Rattle.filter_text.specs.TokenView.{placed_views}
+use Rattle.filter_tokens.specs.TokenView.{placed_views}
 use Rattle.filter_text.proofs.walk.walk.Given as goal
 
 abbrev pub invariant-loop-i : goal.invariant-loop-i

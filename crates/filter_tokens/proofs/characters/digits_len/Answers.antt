@@ -3,8 +3,8 @@ use Rattle.std.specs.Prelude.{slice_index}
 use Rattle.std.specs.Char.{is_ascii_digit}
 use Rattle.std.proofs.lemmas.Grind.{common_steps}
 use Rattle.xml_lexer.proofs.Boundaries.{behind_ascii, start_of}
-use Rattle.filter_text.proofs.Suffixes.{digit-ascii}
-use Rattle.filter_text.proofs.characters.digits_len.Goals as goal
+use Rattle.filter_tokens.proofs.Suffixes.{digit-ascii}
+use Rattle.filter_tokens.proofs.characters.digits_len.Goals as goal
 
 pub loop-len-init : goal.loop-len-init
 loop-len-init c = (grind (arith, common_steps), start_of c.as_bytes-bytes.result.now c.as_bytes-bytes.ensures.utf8)

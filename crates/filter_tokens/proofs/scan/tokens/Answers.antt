@@ -1,10 +1,10 @@
 use Rattle.std.proofs.Common.{◌+◌, ◌-◌, length, sym, ◌∙◌, ap, arith, rules}
 use Rattle.std.proofs.lemmas.List.{map-append}
 use Rattle.std.specs.Prelude.{option_map}
-use Rattle.filter_text.specs.TokenView.{token_view, placed_views}
-use Rattle.filter_text.proofs.CutLaws.{rest-short}
-use Rattle.filter_text.proofs.CuttingSteps.{behind-stop, behind-end, behind-more}
-use Rattle.filter_text.proofs.scan.tokens.Goals as goal
+use Rattle.filter_tokens.specs.TokenView.{token_view, placed_views}
+use Rattle.filter_tokens.proofs.CutLaws.{rest-short}
+use Rattle.filter_tokens.proofs.CuttingSteps.{behind-stop, behind-end, behind-more}
+use Rattle.filter_tokens.proofs.scan.tokens.Goals as goal
 
 pub returns-in-None : goal.returns-in-None
 returns-in-None c =

@@ -1,11 +1,11 @@
 use Rattle.std.proofs.Common.{◌≡◌, ◌+◌, ◌-◌, length, drop}
 use Rattle.std.specs.List.{prefix_len}
 use Rattle.std.specs.Str.{IsCharBoundary}
-use Rattle.std.specs.Char.{is_ascii_digit}
-use Rattle.filter_text.proofs.characters.digits_len.Given as goal
+use Rattle.xml_lexer.specs.Characters.{is_blank}
+use Rattle.filter_tokens.proofs.characters.blank_len.Given as goal
 
 abbrev pub invariant-loop-len : goal.invariant-loop-len
-invariant-loop-len l = (l.len + prefix_len is_ascii_digit (drop l.len l.bytes) ≡ prefix_len is_ascii_digit l.bytes) × IsCharBoundary l.bytes l.len
+invariant-loop-len l = (l.len + prefix_len is_blank (drop l.len l.bytes) ≡ prefix_len is_blank l.bytes) × IsCharBoundary l.bytes l.len
 
 abbrev pub decreases-loop-len : goal.decreases-loop-len
 decreases-loop-len l = length l.bytes - l.len

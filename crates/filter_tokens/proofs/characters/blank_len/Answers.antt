@@ -3,7 +3,7 @@ use Rattle.std.specs.Prelude.{slice_index}
 use Rattle.xml_lexer.specs.Characters.{is_blank}
 use Rattle.std.proofs.lemmas.Grind.{common_steps}
 use Rattle.xml_lexer.proofs.Boundaries.{blank-ascii, behind_ascii, start_of}
-use Rattle.filter_text.proofs.characters.blank_len.Goals as goal
+use Rattle.filter_tokens.proofs.characters.blank_len.Goals as goal
 
 pub loop-len-init : goal.loop-len-init
 loop-len-init c = (grind (arith, common_steps), start_of c.as_bytes-bytes.result.now c.as_bytes-bytes.ensures.utf8)

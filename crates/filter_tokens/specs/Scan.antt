@@ -5,8 +5,8 @@ use Rattle.std.specs.Char.{is_ascii_digit}
 use Rattle.std.specs.Str.{chars}
 use Rattle.xml_lexer.specs.Characters.{is_xml_character, is_name_byte, starts_name}
 use Rattle.xml_lexer.specs.Scan.{byte_at, skip_blanks}
-use Rattle.filter_text.specs.Filter.{Text}
-use Rattle.filter_text.specs.Token.{Token, slash, double_slash, opening_bracket, closing_bracket, opening_parenthesis, closing_parenthesis, at_sign, star, equals, differs, name, literal, foreign, Placed, is_other_than}
+use Rattle.xml_lexer.specs.Characters.{Text}
+use Rattle.filter_tokens.specs.Token.{Token, slash, double_slash, opening_bracket, closing_bracket, opening_parenthesis, closing_parenthesis, at_sign, star, equals, differs, name, literal, foreign, Placed, is_other_than}
 
 abbrev pub behind_digits : Text → Text
 behind_digits s = drop (prefix_len is_ascii_digit s) s

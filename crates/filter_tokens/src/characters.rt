@@ -6,7 +6,7 @@ ghost use Rattle.std.specs.List.{prefix_len, list_all};
 ghost use Rattle.std.specs.Str.{IsCharBoundary, chars};
 ghost use Rattle.xml_lexer.specs.Characters as spec;
 ghost use Rattle.xml_lexer.specs.Scan.{skip_blanks as behind_blanks};
-ghost use Rattle.filter_text.specs.Token.{is_other_than};
+ghost use Rattle.filter_tokens.specs.Token.{is_other_than};
 
 pub fn is_blank(b: u8) -> bool
     ensures { result ≡ spec.is_blank b }

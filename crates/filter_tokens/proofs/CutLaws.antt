@@ -5,10 +5,10 @@ use Rattle.std.specs.List.{prefix_len}
 use Rattle.xml_lexer.specs.Characters.{is_blank}
 use Rattle.xml_lexer.specs.Scan.{skip_blanks}
 use Rattle.xml_lexer.proofs.NameLaws.{skip_blanks-complete, skip_blanks-sound}
-use Rattle.filter_text.specs.Filter.{Text}
-use Rattle.filter_text.specs.Token.{Token, Placed, IsSpelled, IsLongest, AreBlanks, IsCut}
-use Rattle.filter_text.specs.Scan.{token_at, placed_before, tokens_at, cut_of}
-use Rattle.filter_text.proofs.TokenLaws.{Found, finds, Begins, SoundAt, token-sound}
+use Rattle.xml_lexer.specs.Characters.{Text}
+use Rattle.filter_tokens.specs.Token.{Token, Placed, IsSpelled, IsLongest, AreBlanks, IsCut}
+use Rattle.filter_tokens.specs.Scan.{token_at, placed_before, tokens_at, cut_of}
+use Rattle.filter_tokens.proofs.TokenLaws.{Found, finds, Begins, SoundAt, token-sound}
 
 no-token : token_at [] ≡ None
 unfolding token_at

@@ -1,9 +1,9 @@
 -- The tokens of the code as those of the definitions: without where their bytes lie.
 use Rattle.std.specs.Prelude.{List, map}
-use Rattle.filter_text.specs.Token.{Token, Placed, slash, double_slash, opening_bracket, closing_bracket, opening_parenthesis, closing_parenthesis, at_sign, star, equals, differs, name, literal, foreign}
-use Rattle.filter_text.specs.declared.token.Placed.{Placed as CodePlaced}
-use Rattle.filter_text.specs.declared.token.Token.{Token as CodeToken}
-use Rattle.filter_text.specs.declared.token.Token.TheVariants as code
+use Rattle.filter_tokens.specs.Token.{Token, Placed, slash, double_slash, opening_bracket, closing_bracket, opening_parenthesis, closing_parenthesis, at_sign, star, equals, differs, name, literal, foreign}
+use Rattle.filter_tokens.specs.declared.token.Placed.{Placed as CodePlaced}
+use Rattle.filter_tokens.specs.declared.token.Token.{Token as CodeToken}
+use Rattle.filter_tokens.specs.declared.token.Token.TheVariants as code
 
 abbrev pub token_view : CodeToken → Token
 token_view code.Slash = slash

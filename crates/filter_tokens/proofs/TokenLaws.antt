@@ -9,10 +9,10 @@ use Rattle.std.proofs.lemmas.List.{take-append-drop}
 use Rattle.xml_lexer.specs.Characters.{is_xml_character, is_blank, is_name_byte, starts_name, is_name}
 use Rattle.xml_lexer.specs.Scan.{byte_at}
 use Rattle.xml_lexer.proofs.Runs.{both, take-run, drop-run, list_all-run, byte_at-some, byte_at-cons}
-use Rattle.filter_text.specs.Filter.{Text}
-use Rattle.filter_text.specs.Token.{Token, slash, double_slash, opening_bracket, closing_bracket, opening_parenthesis, closing_parenthesis, at_sign, star, equals, differs, name, literal, foreign, is_other_than, IsQuote, AreDigits, IsForeign, digits, decimal, point, two_points, two_colons, colon, dollar, less, at_most, greater, at_least, plus, minus, bar, comma, IsSpelled}
-use Rattle.filter_text.specs.Scan.{behind_digits, behind_fraction, literal_in, literal_at, name_at, single, or_longer, other_at, single_or, mark_at, token_at}
-use Rattle.filter_text.proofs.Suffixes.{Suffix, suffix-refl, suffix-trans, suffix-tail, suffix-drop, prefix_len-more, drop-more, take-more}
+use Rattle.xml_lexer.specs.Characters.{Text}
+use Rattle.filter_tokens.specs.Token.{Token, slash, double_slash, opening_bracket, closing_bracket, opening_parenthesis, closing_parenthesis, at_sign, star, equals, differs, name, literal, foreign, is_other_than, IsQuote, AreDigits, IsForeign, digits, decimal, point, two_points, two_colons, colon, dollar, less, at_most, greater, at_least, plus, minus, bar, comma, IsSpelled}
+use Rattle.filter_tokens.specs.Scan.{behind_digits, behind_fraction, literal_in, literal_at, name_at, single, or_longer, other_at, single_or, mark_at, token_at}
+use Rattle.filter_tokens.proofs.Suffixes.{Suffix, suffix-refl, suffix-trans, suffix-tail, suffix-drop, prefix_len-more, drop-more, take-more}
 
 -- ---- each token is found, or a longer one
 

@@ -5,7 +5,7 @@ use Rattle.std.specs.Char.{is_ascii_digit}
 use Rattle.std.proofs.lemmas.Bool.Decides.{nat_tests}
 use Rattle.xml_lexer.specs.Characters.{starts_name}
 use Rattle.xml_lexer.proofs.Runs.{both}
-use Rattle.filter_text.specs.Filter.{Text}
+use Rattle.xml_lexer.specs.Characters.{Text}
 
 pub record Suffix (rest s : Text) : Type 0 where
   pub short : length rest ≤ length s

@@ -1,9 +1,9 @@
 -- One step of cutting, where tokens were read before.
 use Rattle.std.proofs.Common.{◌≡◌, ◌++◌, ◌-◌, ℕ, zero, suc, List, [], ◌∷◌, length, Some, None, refl, sym, ◌∙◌, ap, append_assoc, append-nil}
 use Rattle.xml_lexer.specs.Scan.{skip_blanks}
-use Rattle.filter_text.specs.Filter.{Text}
-use Rattle.filter_text.specs.Token.{Token, Placed}
-use Rattle.filter_text.specs.Scan.{token_at, placed_before, tokens_at, behind_tokens}
+use Rattle.xml_lexer.specs.Characters.{Text}
+use Rattle.filter_tokens.specs.Token.{Token, Placed}
+use Rattle.filter_tokens.specs.Scan.{token_at, placed_before, tokens_at, behind_tokens}
 
 at_stop : (n size : ℕ) (s : Text) → token_at s ≡ None → ◌≡◌ {A = List Placed × Text} (tokens_at n size s) ([], s)
 unfolding tokens_at

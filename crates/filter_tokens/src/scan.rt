@@ -2,8 +2,8 @@
 
 ghost use Rattle.std.specs.Prelude.{◌≡◌, ◌≤◌, ◌<◌, ◌+◌, length, drop, option_map, slice_index, IfOk};
 ghost use Rattle.xml_lexer.specs.Scan.{byte_at};
-ghost use Rattle.filter_text.specs.Scan.{behind_digits, behind_fraction, literal_at, name_at, single, or_longer, differs_at, other_at, mark_at, token_at, cut_of};
-ghost use Rattle.filter_text.specs.TokenView.{token_view, placed_views};
+ghost use Rattle.filter_tokens.specs.Scan.{behind_digits, behind_fraction, literal_at, name_at, single, or_longer, differs_at, other_at, mark_at, token_at, cut_of};
+ghost use Rattle.filter_tokens.specs.TokenView.{token_view, placed_views};
 
 use crate::characters::{are_xml, digits_len, name_len, skip_blanks, starts_name, value_len};
 use crate::token::{Placed, Token};

@@ -1,9 +1,9 @@
 use Rattle.std.proofs.Common.{◌≡◌, ◌-◌, ◌≤◌, length}
 use denote.Shadow.{shadow}
 use denote.Text.{Utf8}
-use Rattle.filter_text.specs.TokenView.{placed_views}
-use Rattle.filter_text.specs.Scan.{tokens_at, behind_tokens, cut_of}
-use Rattle.filter_text.proofs.scan.tokens.Given as goal
+use Rattle.filter_tokens.specs.TokenView.{placed_views}
+use Rattle.filter_tokens.specs.Scan.{tokens_at, behind_tokens, cut_of}
+use Rattle.filter_tokens.proofs.scan.tokens.Given as goal
 
 abbrev pub invariant-loop : goal.invariant-loop
 invariant-loop l =

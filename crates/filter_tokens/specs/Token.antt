@@ -4,7 +4,7 @@ use Rattle.std.specs.List.{list_all}
 use Rattle.std.specs.Char.{is_ascii_digit}
 use Rattle.std.specs.Str.{chars}
 use Rattle.xml_lexer.specs.Characters.{is_xml_character, is_blank, is_name}
-use Rattle.filter_text.specs.Filter.{Text}
+use Rattle.xml_lexer.specs.Characters.{Text}
 
 pub data Token : Type 0 where
   slash : Token

@@ -1,0 +1,4 @@
+pub mod Suffixes
+pub mod TokenLaws
+pub mod CutLaws
+pub mod CuttingSteps

@@ -1,0 +1,3 @@
+pub mod Token
+pub mod Scan
+pub mod TokenView
