@@ -13,8 +13,8 @@ ghost use Rattle.filter_text.specs.declared.filter.Path.{out-Path};
 
 use crate::fault::FilterFault;
 use crate::filter::Path;
-use filter_tokens::{Placed, tokens};
 use crate::walk::{Sentence, first_outside, first_too_deep, into_sentence, walk};
+use filter_tokens::{Placed, tokens};
 use std::alloc::Global;
 
 const MAX_LENGTH: usize = 1024;
