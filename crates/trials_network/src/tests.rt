@@ -1,8 +1,12 @@
 //! Words and inputs, with the status and the output that they have.
 
+ghost use Rattle.std.specs.Prelude.{IfOk};
+ghost use Rattle.voevent_cli.specs.Racks.{IsWhole, disks};
+
 use std::alloc::Global;
 use std::process::Abort;
 use std::test::Fail;
+use voe_disk::{MemoryRack, Rack};
 use voe_outside::{MemorySink, MemorySource, ReadFault, Source, read_all};
 use voe_values::{Bytes, NoMemory, Text};
 use voevent_cli::offline;
@@ -45,6 +49,14 @@ impl<'a> Call<'a> {
     }
 }
 
+/// A rack none of whose disks is lent out.
+fn whole_rack(alloc: Global) -> Result<MemoryRack, NoMemory>
+    ensures { IfOk result (λ rack. IsWhole (disks (λ k. ⟦<MemoryRack as Rack>⟧.trial rack k) (⟦<MemoryRack as Rack>⟧.real rack))) }
+{
+    let rack = MemoryRack::new(alloc)?;
+    Ok(rack)
+}
+
 fn failed(_: NoMemory) -> Fail {
     Fail::from("no memory")
 }
@@ -76,7 +88,8 @@ fn run(
         call.piece,
         Bytes::of(alloc, call.write_fails).map_err(failed)?,
     );
-    let answer = offline(alloc, words.as_slice(), &mut source, &mut sink);
+    let mut rack = whole_rack(alloc).map_err(failed)?;
+    let answer = offline(alloc, words.as_slice(), &mut source, &mut sink, &mut rack);
     assert_eq!(rt; answer, status, "status");
     assert!(rt; sink.held() == output.as_bytes());
     Ok(source)
@@ -269,7 +282,9 @@ fn a_failing_source_counts(rt: HostRuntime) -> Result<(), Fail> {
     let mut source = MemorySource::new(Bytes::new(alloc), 1, fails);
     let word = Text::of(alloc, "net").map_err(failed)?;
     let mut sink = MemorySink::new(alloc, 1, Bytes::new(alloc));
-    assert_eq!(rt; offline(alloc, &[word], &mut source, &mut sink), 4);
+    let mut rack = whole_rack(alloc).map_err(failed)?;
+    let answer = offline(alloc, &[word], &mut source, &mut sink, &mut rack);
+    assert_eq!(rt; answer, 4);
     assert_eq!(rt; source.faults(), 1);
     Ok(())
 }

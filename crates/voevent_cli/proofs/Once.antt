@@ -16,7 +16,8 @@ use Rattle.voe_tree.specs.declared.fault.TreeFault.TheVariants.{NotText, BadToke
 use Rattle.voe_tree.proofs.RootLaws.{same_root}
 use Rattle.voe_validity.specs.Judging.{number_of_fault}
 use Rattle.voevent_cli.specs.Documents.{Document, tree, no_tree, too_long, IsDocument, WantedOf, checked, place_of_fault, shown, wanted_of}
-use Rattle.voevent_cli.specs.Wanted.{Wanted, WantedFor, command_of}
+use Rattle.voevent_cli.specs.Racks.{Disks}
+use Rattle.voevent_cli.specs.Wanted.{Acts, Wants}
 use Rattle.voevent_cli.specs.declared.command.Command.{Command}
 use Rattle.voevent_cli.specs.declared.command.Command.TheVariants.{Net, Check, Show}
 use Rattle.voevent_cli.specs.declared.outcome.Outcome.{Outcome}
@@ -164,11 +165,12 @@ same_document judged input too_long too_long one other = refl
 same_of : (judged : Element → Outcome) (input : Text) (a b : Outcome) → WantedOf judged input a → WantedOf judged input b → a ≡ b
 same_of judged input a b (one, is, e) (other, also, f) = e ∙ same_document judged input one other is also ∙ sym f
 
-same_for : (command : Option Command) (input : Text) (a b : Outcome) → WantedFor command input a → WantedFor command input b → a ≡ b
-same_for None input a b one other = one ∙ sym other
-same_for (Some Net) input a b one other = one ∙ sym other
-same_for (Some Check) input a b one other = same_of checked input a b one other
-same_for (Some Show) input a b one other = same_of shown input a b one other
+same_acts : {T D : Type 0} (command : Command) (input : Text) (before now later : Disks T D) (a b : Outcome) → Acts command input before now a → Acts command input before later b → a ≡ b
+same_acts Net input before now later a b one other = one.0 ∙ sym other.0
+same_acts Check input before now later a b one other = same_of checked input a b one.0 other.0
+same_acts Show input before now later a b one other = same_of shown input a b one.0 other.0
 
-pub wanted_once : (words : List (List ℕ)) (input : List ℕ) (a b : Outcome) → Wanted words input a → Wanted words input b → a ≡ b
-wanted_once words input a b one other = same_for (command_of words) input a b one other
+pub wanted_once : {T D : Type 0} (command : Option Command) (input : List ℕ) (before now later : Disks T D) (a b : Outcome)
+    → Wants command input before now a → Wants command input before later b → a ≡ b
+wanted_once None input before now later a b one other = one.0 ∙ sym other.0
+wanted_once (Some command) input before now later a b one other = same_acts command input before now later a b one other

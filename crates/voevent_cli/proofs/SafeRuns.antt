@@ -12,7 +12,13 @@ use Rattle.voe_net.specs.Plain.{plain}
 use Rattle.voe_scenario.specs.Scenarios.{Refusal}
 use Rattle.voe_scenario.specs.Sound.{IsNamed}
 use Rattle.voe_scenario.specs.declared.scenario.Scenario.{Scenario}
+use Rattle.std.specs.declared.option.Option.{Option}
+use Rattle.std.proofs.Common.{Some, None}
+use Rattle.voe_scenario.specs.Scenarios.{scenario_of}
+use Rattle.voevent_cli.specs.Answers.{IsSafeRun}
 use Rattle.voevent_cli.specs.Safety.{IsSafeThroughout}
+use Rattle.voevent_cli.specs.declared.command.Command.{Command}
+use Rattle.voevent_cli.specs.declared.command.Command.TheVariants.{Net, Check, Show}
 
 -- what the network's laws say of a property at every moment of every run
 abbrev pub Always : (Rules → Graph → State → Type 0) → Type 0
@@ -44,3 +50,11 @@ pub all_traffic : (graph : Graph) (packets : List (List ℕ)) (events : List Eve
 all_traffic graph packets [] named = tt
 all_traffic graph packets (event ∷ events) named =
     (is_traffic graph packets event (named 0 event (omega arith)), all_traffic graph packets events (λ k d below. named (suc k) d (omega arith)))
+
+-- the same of what was taken, by the command
+pub safe_run : (command : Option Command) (taken : List ℕ) → Always (λ rules graph state. NoDouble state) → Always (λ rules graph state. AllWritten graph state)
+    → Always (λ rules graph state. IsSettled graph state → IsFulfilled rules graph state) → IsSafeRun command taken
+safe_run None taken single written fulfilled = tt
+safe_run (Some Net) taken single written fulfilled = safe_throughout (scenario_of taken) single written fulfilled
+safe_run (Some Check) taken single written fulfilled = tt
+safe_run (Some Show) taken single written fulfilled = tt

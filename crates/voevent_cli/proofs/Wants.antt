@@ -1,10 +1,10 @@
 -- What is wanted, case by case.
-use Rattle.std.proofs.Common.{◌≡◌, ◌==◌, false, ℕ, ◌<◌, ◌≤◌, Bool, true, List, [], ◌++◌, length, cond, refl, ap, sym, ◌∙◌, subst, Err, Ok, Result, Some, None, inl, inr, arith, append-nil, length-append}
+use Rattle.std.proofs.Common.{◌+◌, ◌≡◌, ◌==◌, false, ℕ, ◌<◌, ◌≤◌, Bool, true, List, [], ◌++◌, length, cond, refl, ap, sym, ◌∙◌, subst, Err, Ok, Result, Some, None, inl, inr, arith, append-nil, length-append}
 use Rattle.std.specs.declared.option.Option.{Option}
 use Rattle.std.specs.Prelude.{if◌then◌else◌}
 use Rattle.std.proofs.lemmas.Bool.{lt-ltb}
 use Rattle.voe_net.specs.Report.{report_of}
-use Rattle.voe_outside.specs.Whole.{Gave}
+use Rattle.voe_outside.specs.Whole.{Gave, Reads}
 use Rattle.voe_scenario.specs.Scenarios.{Refusal, scenario_of, read_from, nothing_yet}
 use Rattle.voe_scenario.specs.Words.{lines_of}
 use Rattle.voe_scenario.specs.declared.scenario.Scenario.{Scenario}
@@ -22,11 +22,17 @@ use Rattle.voevent_cli.specs.Safety.{IsSafeThroughout}
 use Rattle.voevent_cli.specs.declared.command.Command.{Command}
 use Rattle.voevent_cli.specs.declared.command.Command.TheVariants.{Net, Check, Show}
 use Rattle.voevent_cli.specs.declared.outcome.Status.{Status}
-use Rattle.voevent_cli.specs.declared.outcome.Status.TheVariants.{Done, Usage, Refused, ReadFault, WriteFault, NoMemory}
+use Rattle.voevent_cli.specs.declared.outcome.Status.TheVariants.{Done, Usage, Refused, ReadFault, WriteFault, DiskFault, NoMemory, JournalRefused}
 use Rattle.voevent_cli.specs.declared.outcome.Outcome.{Outcome}
 use Rattle.voevent_cli.specs.declared.refusal.Refusal.TheVariants.{TooLong, Tree, Scenario as BadLine}
-use Rattle.voevent_cli.specs.Wanted.{Wanted, WantedFor, code_of, command_of, final_state, limit_of, wanted_of_net, reported}
-use Rattle.voevent_cli.specs.Answers.{Moment, HasRead, Answered, Says, DoesAll}
+use Rattle.voevent_cli.specs.Wanted.{Acts, Wants, code_of, command_of, final_state, limit_of, wanted_of_net, reported}
+use Rattle.voevent_cli.specs.Answers.{Moment, HasRead, Answered, IsSafeRun, Says, DoesAll}
+use Rattle.voevent_cli.specs.Prepared.{IsWantedAbove, Prepares}
+use Rattle.voevent_cli.specs.Racks.{Disks, AreSame}
+use Rattle.voevent_cli.specs.declared.refusal.Refusal.{Refusal as Reason}
+use Rattle.voe_disk.specs.declared.disk.Disk.{Ghosts}
+use Rattle.voe_outside.specs.declared.whole.TheConstants.{BUFFER}
+use Rattle.voe_outside.specs.declared.whole.ReadFault.TheVariants.{TooLong as TooMuch}
 
 -- ---- `net`
 
@@ -49,9 +55,9 @@ wanted_of_net-above input above =
     let is_above = lt-ltb 33554432 (length input) above in
     ap (λ b. reported (cond b (Err (record { number = 3; line = 0 })) (read_from nothing_yet 1 (lines_of input)))) is_above
 
--- the line of a text above the limit
-pub wanted_above_net : (command : Command) → command ≡ Net → (input : List ℕ) → limit_of command < length input → WantedFor (Some command) input (refused (BadLine 3 0))
-wanted_above_net command is = subst (λ c. (input : List ℕ) → limit_of c < length input → WantedFor (Some c) input (refused (BadLine 3 0))) (sym is) (λ input above. sym (wanted_of_net-above input above))
+-- so is the outcome
+pub wanted_above_net : (command : Command) → command ≡ Net → IsWantedAbove command (refused (BadLine 3 0))
+wanted_above_net command is = subst (λ c. IsWantedAbove c (refused (BadLine 3 0))) (sym is) (λ input above. sym (wanted_of_net-above input above))
 
 -- ---- documents
 
@@ -75,20 +81,42 @@ too_long-alike judged one two outcome first second (tree root, is, same) = absur
 too_long-alike judged one two outcome first second (no_tree number place, is, same) = absurd (let short = is.0 in omega arith)
 too_long-alike judged one two outcome first second (too_long, is, same) = (too_long, second, same)
 
--- above its limit a command's inputs are all alike
-pub wanted_for-above : (command : Command) (one two : List ℕ) (outcome : Outcome) → limit_of command < length one → limit_of command < length two
-    → WantedFor (Some command) one outcome → WantedFor (Some command) two outcome
-wanted_for-above Net one two outcome first second is = is ∙ wanted_of_net-above one first ∙ sym (wanted_of_net-above two second)
-wanted_for-above Check one two outcome first second is = too_long-alike checked one two outcome first second is
-wanted_for-above Show one two outcome first second is = too_long-alike shown one two outcome first second is
+-- nothing was done to the disks
+same_disks : {T D : Type 0} (rack : Disks T D) → AreSame rack rack
+same_disks rack = record { trials = λ k. refl; real = refl }
 
--- an outcome is wanted with one of three statuses
+-- above its limit a command's inputs are all alike
+acts_alike : {T D : Type 0} (command : Command) (one two : List ℕ) (before now : Disks T D) (outcome : Outcome)
+    → limit_of command < length one → limit_of command < length two → Acts command one before now outcome → Acts command two before now outcome
+acts_alike Net one two before now outcome first second acts = (acts.0 ∙ wanted_of_net-above one first ∙ sym (wanted_of_net-above two second), acts.1)
+acts_alike Check one two before now outcome first second acts = (too_long-alike checked one two outcome first second acts.0, acts.1)
+acts_alike Show one two before now outcome first second acts = (too_long-alike shown one two outcome first second acts.0, acts.1)
+
+-- and nothing is done to the disks
+acts_above : {T D : Type 0} (command : Command) (input : List ℕ) (rack : Disks T D) (outcome : Outcome)
+    → limit_of command < length input → IsWantedAbove command outcome → Acts command input rack rack outcome
+acts_above Net input rack outcome above wanted = (wanted input above, same_disks rack)
+acts_above Check input rack outcome above wanted = (wanted input above, same_disks rack)
+acts_above Show input rack outcome above wanted = (wanted input above, same_disks rack)
+
+-- an input above a command's limit was taken
+pub prepared_above : {T D : Type 0} (disk : Ghosts D) (words : List (List ℕ)) (command : Command) (limit : ℕ) (left left_now : Option (List ℕ)) (faults faults_now : ℕ)
+    (rack : Disks T D) (refusal : Reason) (outcome : Outcome) → command_of words ≡ Some command → limit ≡ limit_of command → outcome ≡ refused refusal → IsWantedAbove command (refused refusal)
+    → Reads limit left left_now (Err TooMuch) → Prepares disk words left left_now faults faults_now rack rack (Ok outcome)
+prepared_above disk words command limit left left_now faults faults_now rack refusal outcome is limit_is outcome_is wanted reads =
+    let above : limit_of command < length reads.0 = rw (← limit_is) reads.2 in
+    let most : length reads.0 ≤ limit_of command + BUFFER = rw (← limit_is) reads.3 in
+    rw is (reads.0, (reads.1, most), inr above, rw outcome_is (acts_above command reads.0 rack (refused refusal) above wanted))
+
+-- an outcome is wanted with one of four statuses
 abbrev pub IsAnswer : Status → Type 0
 IsAnswer Done = Unit {0}
 IsAnswer Usage = Unit {0}
 IsAnswer Refused = Unit {0}
+IsAnswer JournalRefused = Unit {0}
 IsAnswer ReadFault = ⊥
 IsAnswer WriteFault = ⊥
+IsAnswer DiskFault = ⊥
 IsAnswer NoMemory = ⊥
 
 reported_answers : (outcome : Result Scenario Refusal) → IsAnswer (reported outcome).status
@@ -125,72 +153,73 @@ document_answers judged answers too_long = tt
 of_answers : (judged : Element → Outcome) → ((root : Element) → IsAnswer (judged root).status) → (input : List ℕ) (outcome : Outcome) → WantedOf judged input outcome → IsAnswer outcome.status
 of_answers judged answers input outcome (document, is, same) = subst (λ (o : Outcome). IsAnswer o.status) (sym same) (document_answers judged answers document)
 
-wanted_answers : (command : Option Command) (input : List ℕ) (outcome : Outcome) → WantedFor command input outcome → IsAnswer outcome.status
+acts_answers : {T D : Type 0} (command : Command) (input : List ℕ) (before now : Disks T D) (outcome : Outcome) → Acts command input before now outcome → IsAnswer outcome.status
 unfolding wanted_of_net
-wanted_answers None input outcome is = subst (λ (o : Outcome). IsAnswer o.status) (sym is) tt
-wanted_answers (Some Net) input outcome is = subst (λ (o : Outcome). IsAnswer o.status) (sym is) (reported_answers (scenario_of input))
-wanted_answers (Some Check) input outcome is = of_answers checked (λ root. checked_answers (least_broken_row root) root) input outcome is
-wanted_answers (Some Show) input outcome is = of_answers shown root_answers input outcome is
+acts_answers Net input before now outcome acts = subst (λ (o : Outcome). IsAnswer o.status) (sym acts.0) (reported_answers (scenario_of input))
+acts_answers Check input before now outcome acts = of_answers checked (λ root. checked_answers (least_broken_row root) root) input outcome acts.0
+acts_answers Show input before now outcome acts = of_answers shown root_answers input outcome acts.0
 
-answer_code : (status : Status) → IsAnswer status → ((code_of status == 4) ≡ false) × ((code_of status == 5) ≡ false)
+pub wants_answers : {T D : Type 0} (command : Option Command) (input : List ℕ) (before now : Disks T D) (outcome : Outcome) → Wants command input before now outcome → IsAnswer outcome.status
+wants_answers None input before now outcome wants = subst (λ (o : Outcome). IsAnswer o.status) (sym wants.0) tt
+wants_answers (Some command) input before now outcome wants = acts_answers command input before now outcome wants
+
+-- such a status is no fault
+pub answer_code : (status : Status) → IsAnswer status → ((code_of status == 4) ≡ false) × ((code_of status == 5) ≡ false)
 answer_code Done answer = (refl, refl)
 answer_code Usage answer = (refl, refl)
 answer_code Refused answer = (refl, refl)
+answer_code JournalRefused answer = (refl, refl)
 answer_code ReadFault answer = absurd answer
 answer_code WriteFault answer = absurd answer
+answer_code DiskFault answer = absurd answer
 answer_code NoMemory answer = absurd answer
 
--- what is wanted is no fault
-pub wanted_code : (words : List (List ℕ)) (input : List ℕ) (outcome : Outcome) → Wanted words input outcome
-    → ((code_of outcome.status == 4) ≡ false) × ((code_of outcome.status == 5) ≡ false)
-wanted_code words input outcome is = answer_code outcome.status (wanted_answers (command_of words) input outcome is)
-
-not_answered : (words : List (List ℕ)) (taken : List ℕ) (before now : Moment) (status : Status) → Answered words taken before now status → IsAnswer status
-not_answered words taken before now status answered =
-    subst IsAnswer answered.wanted_status (wanted_answers (command_of words) taken answered.outcome answered.is_wanted)
-
 -- the wanted outcome was written whole
-pub written : (words : List (List ℕ)) (taken : List ℕ) (before now : Moment) (status : Status)
-    → Answered words taken before now status → IsSafeThroughout (scenario_of taken) → Says words taken before now status
-written words taken before now Done answered sound = (answered, sound)
-written words taken before now Usage answered sound = answered
-written words taken before now Refused answered sound = answered
-written words taken before now ReadFault answered sound = absurd (not_answered words taken before now ReadFault answered)
-written words taken before now WriteFault answered sound = absurd (not_answered words taken before now WriteFault answered)
-written words taken before now NoMemory answered sound = absurd (not_answered words taken before now NoMemory answered)
+pub written : {T D : Type 0} (disk : Ghosts D) (words : List (List ℕ)) (taken : List ℕ) (before now : Moment T D) (status : Status) → IsAnswer status
+    → Answered words taken before now status → IsSafeRun (command_of words) taken → Says disk words taken before now status
+written disk words taken before now Done answer answered sound = (answered, sound)
+written disk words taken before now Usage answer answered sound = answered
+written disk words taken before now Refused answer answered sound = answered
+written disk words taken before now JournalRefused answer answered sound = answered
+written disk words taken before now ReadFault answer answered sound = absurd answer
+written disk words taken before now WriteFault answer answered sound = absurd answer
+written disk words taken before now DiskFault answer answered sound = absurd answer
+written disk words taken before now NoMemory answer answered sound = absurd answer
 
 -- what was taken is the whole input, or both are above the limit
-wanted_for-taken : (command : Option Command) (taken input : List ℕ) (left : Option (List ℕ)) (outcome : Outcome) → HasRead command taken left
-    → Gave taken (Some input) left → WantedFor command taken outcome → WantedFor command input outcome
-wanted_for-taken None taken input left outcome read gave is = is
-wanted_for-taken (Some command) taken input None outcome read gave is = absurd (let wrong : Some input ≡ None = gave in cc)
-wanted_for-taken (Some command) taken input (Some rest) outcome (inl ended) gave is =
+wants_taken : {T D : Type 0} (command : Option Command) (taken input : List ℕ) (left : Option (List ℕ)) (before now : Disks T D) (outcome : Outcome)
+    → HasRead command taken left → Gave taken (Some input) left → Wants command taken before now outcome → Wants command input before now outcome
+wants_taken None taken input left before now outcome read gave wants = wants
+wants_taken (Some command) taken input None before now outcome read gave wants = absurd (let wrong : Some input ≡ None = gave in cc)
+wants_taken (Some command) taken input (Some rest) before now outcome (inl ended) gave wants =
     let whole : Some input ≡ Some (taken ++ rest) = gave in
     let none : rest ≡ [] = ended in
     let same : input ≡ taken ++ rest = cc in
-    subst (λ text. WantedFor (Some command) text outcome) (sym (same ∙ ap (λ r. taken ++ r) none ∙ append-nil taken)) is
-wanted_for-taken (Some command) taken input (Some rest) outcome (inr above) gave is =
+    let all : taken ≡ input = sym (same ∙ ap (λ r. taken ++ r) none ∙ append-nil taken) in
+    subst (λ bytes. Acts command bytes before now outcome) all wants
+wants_taken (Some command) taken input (Some rest) before now outcome (inr above) gave wants =
     let whole : Some input ≡ Some (taken ++ rest) = gave in
     let same : input ≡ taken ++ rest = cc in
     let longer : limit_of command < length input = rw same (simp length-append (omega arith)) in
-    wanted_for-above command taken input outcome above longer is
+    acts_alike command taken input before now outcome above longer wants
 
-all_done : (words : List (List ℕ)) (taken input : List ℕ) (before now : Moment) (status : Status) → before.left ≡ Some input
-    → Gave taken before.left now.left → Answered words taken before now status → DoesAll words input before now (code_of status)
-all_done words taken input before now status told gave answered =
-    inl (
-      answered.outcome,
-      wanted_for-taken (command_of words) taken input now.left answered.outcome answered.read (rw told at gave) answered.is_wanted,
-      ap code_of (sym answered.wanted_status),
-      answered.output,
-    )
+all_done : {T D : Type 0} (disk : Ghosts D) (words : List (List ℕ)) (taken input : List ℕ) (before now : Moment T D) (status : Status) → before.left ≡ Some input
+    → Gave taken before.left now.left → Answered words taken before now status → DoesAll disk words input before now (code_of status)
+all_done disk words taken input before now status told gave answered = inl (record {
+  outcome = answered.outcome;
+  wanted = wants_taken (command_of words) taken input now.left before.rack now.rack answered.outcome answered.read (rw told at gave) answered.wanted;
+  wanted_code = ap code_of (sym answered.wanted_status);
+  output = answered.output;
+})
 
--- of a source that tells its bytes, all that is wanted was done, or 4, 5 or 7 is answered
-pub does_all : (words : List (List ℕ)) (taken input : List ℕ) (before now : Moment) (status : Status) → before.left ≡ Some input
-    → Gave taken before.left now.left → Says words taken before now status → DoesAll words input before now (code_of status)
-does_all words taken input before now Done told gave says = all_done words taken input before now Done told gave says.0
-does_all words taken input before now Usage told gave says = all_done words taken input before now Usage told gave says
-does_all words taken input before now Refused told gave says = all_done words taken input before now Refused told gave says
-does_all words taken input before now ReadFault told gave says = inr (inl (refl, says.2))
-does_all words taken input before now WriteFault told gave says = inr (inr (inl (refl, says.1)))
-does_all words taken input before now NoMemory told gave says = inr (inr (inr refl))
+-- of a source that tells its bytes, all that is wanted was done, or 4, 5, 6 or 7 is answered
+pub does_all : {T D : Type 0} (disk : Ghosts D) (words : List (List ℕ)) (taken input : List ℕ) (before now : Moment T D) (status : Status) → before.left ≡ Some input
+    → Gave taken before.left now.left → Says disk words taken before now status → DoesAll disk words input before now (code_of status)
+does_all disk words taken input before now Done told gave says = all_done disk words taken input before now Done told gave says.0
+does_all disk words taken input before now Usage told gave says = all_done disk words taken input before now Usage told gave says
+does_all disk words taken input before now Refused told gave says = all_done disk words taken input before now Refused told gave says
+does_all disk words taken input before now JournalRefused told gave says = all_done disk words taken input before now JournalRefused told gave says
+does_all disk words taken input before now ReadFault told gave says = inr (inl (refl, says.2))
+does_all disk words taken input before now WriteFault told gave says = inr (inr (inl (refl, says.1)))
+does_all disk words taken input before now DiskFault told gave says = inr (inr (inr (inl (refl, says.2))))
+does_all disk words taken input before now NoMemory told gave says = inr (inr (inr (inr refl)))

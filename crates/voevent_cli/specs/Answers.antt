@@ -1,28 +1,33 @@
--- What a call of the program did: what it took from its source, what it put on its sink, and how it ended.
+-- What a call of the program did: what it took from its source, what it put on its sink, what it did to the disks, and how it ended.
 use Rattle.std.specs.Prelude.{◌≡◌, ℕ, ◌+◌, ◌<◌, ◌≤◌, List, [], length, take, Some, None, ◌⊎◌}
 use Rattle.std.specs.declared.option.Option.{Option}
 use Rattle.std.specs.Io.KnownBytes.{append_known, IsAtEnd}
+use Rattle.voe_disk.specs.declared.disk.Disk.{Ghosts}
 use Rattle.voe_outside.specs.Causes.{Rose}
 use Rattle.voe_outside.specs.Whole.{Gave}
 use Rattle.voe_outside.specs.declared.whole.TheConstants.{BUFFER}
 use Rattle.voe_scenario.specs.Scenarios.{scenario_of}
+use Rattle.voevent_cli.specs.Racks.{Disks, AreSame, RealRose}
 use Rattle.voevent_cli.specs.declared.command.Command.{Command}
+use Rattle.voevent_cli.specs.declared.command.Command.TheVariants.{Net, Check, Show}
 use Rattle.voevent_cli.specs.declared.outcome.Outcome.{Outcome}
 use Rattle.voevent_cli.specs.declared.outcome.Status.{Status}
-use Rattle.voevent_cli.specs.declared.outcome.Status.TheVariants.{Done, Usage, Refused, ReadFault, WriteFault, NoMemory}
+use Rattle.voevent_cli.specs.declared.outcome.Status.TheVariants.{Done, Usage, Refused, ReadFault, WriteFault, DiskFault, NoMemory, JournalRefused}
 use Rattle.voevent_cli.specs.Safety.{IsSafeThroughout}
-use Rattle.voevent_cli.specs.Wanted.{Wanted, code_of, command_of, limit_of}
+use Rattle.voevent_cli.specs.Wanted.{Wants, code_of, command_of, limit_of}
 
--- A source and a sink at one moment: what is left and what is held, where they tell it, and how often each has failed.
-pub record Moment : Type 0 where
+-- A source, a sink and a rack at one moment: what is left and what is held, where they tell it, how often each has failed, and
+-- the disks.
+pub record Moment (T D : Type 0) : Type 0 where
   pub left : Option (List ℕ)
   pub read_faults : ℕ
   pub held : Option (List ℕ)
   pub write_faults : ℕ
+  pub rack : Disks T D
 
-abbrev pub moment : Option (List ℕ) → ℕ → Option (List ℕ) → ℕ → Moment
-moment left read_faults held write_faults =
-    record { left = left; read_faults = read_faults; held = held; write_faults = write_faults }
+abbrev pub moment : {T D : Type 0} → Option (List ℕ) → ℕ → Option (List ℕ) → ℕ → Disks T D → Moment T D
+moment left read_faults held write_faults rack =
+    record { left = left; read_faults = read_faults; held = held; write_faults = write_faults; rack = rack }
 
 -- the most that is taken of an input: its limit and a buffer, and nothing without a command
 abbrev pub most_of : Option Command → ℕ
@@ -39,53 +44,66 @@ abbrev pub IsWithin : Option Command → List ℕ → Type 0
 IsWithin None taken = ⊥
 IsWithin (Some command) taken = length taken ≤ limit_of command
 
--- the status is the wanted one, and the wanted bytes stand behind what the sink held
-pub record Answered (words : List (List ℕ)) (taken : List ℕ) (before now : Moment) (status : Status) : Type 0 where
+-- the outcome is a wanted one of this status, and its bytes stand behind what the sink held
+pub record Answered {T D : Type 0} (words : List (List ℕ)) (taken : List ℕ) (before now : Moment T D) (status : Status) : Type 0 where
   pub read : HasRead (command_of words) taken now.left
   pub outcome : Outcome
-  pub is_wanted : Wanted words taken outcome
+  pub wanted : Wants (command_of words) taken before.rack now.rack outcome
   pub wanted_status : outcome.status ≡ status
   pub output : now.held ≡ append_known before.held outcome.output
 
 -- a front of the wanted bytes stands behind what the sink held
-pub record CutShort (words : List (List ℕ)) (taken : List ℕ) (before now : Moment) : Type 0 where
+pub record CutShort {T D : Type 0} (words : List (List ℕ)) (taken : List ℕ) (before now : Moment T D) : Type 0 where
   pub read : HasRead (command_of words) taken now.left
   pub outcome : Outcome
-  pub is_wanted : Wanted words taken outcome
+  pub wanted : Wants (command_of words) taken before.rack now.rack outcome
   pub count : ℕ
   pub part : count < length outcome.output
   pub output : now.held ≡ append_known before.held (take count outcome.output)
 
+-- what holds of the run of the scenario that was taken, where the words are `net`
+abbrev pub IsSafeRun : Option Command → List ℕ → Type 0
+IsSafeRun (Some Net) taken = IsSafeThroughout (scenario_of taken)
+IsSafeRun (Some Check) taken = Unit {0}
+IsSafeRun (Some Show) taken = Unit {0}
+IsSafeRun None taken = Unit {0}
+
 -- what each status says, where these bytes were taken
-abbrev pub Says : List (List ℕ) → List ℕ → Moment → Moment → Status → Type 0
-Says words taken before now Done = Answered words taken before now Done × IsSafeThroughout (scenario_of taken)
-Says words taken before now Usage = Answered words taken before now Usage
-Says words taken before now Refused = Answered words taken before now Refused
-Says words taken before now ReadFault =
-    IsWithin (command_of words) taken × (now.held ≡ before.held) × Rose before.read_faults now.read_faults
-Says words taken before now WriteFault = CutShort words taken before now × Rose before.write_faults now.write_faults
-Says words taken before now NoMemory = now.held ≡ before.held
+abbrev pub Says : {T D : Type 0} → Ghosts D → List (List ℕ) → List ℕ → Moment T D → Moment T D → Status → Type 0
+Says disk words taken before now Done = Answered words taken before now Done × IsSafeRun (command_of words) taken
+Says disk words taken before now Usage = Answered words taken before now Usage
+Says disk words taken before now Refused = Answered words taken before now Refused
+Says disk words taken before now JournalRefused = Answered words taken before now JournalRefused
+Says disk words taken before now ReadFault =
+    IsWithin (command_of words) taken × (now.held ≡ before.held) × Rose before.read_faults now.read_faults × AreSame before.rack now.rack
+Says disk words taken before now WriteFault = CutShort words taken before now × Rose before.write_faults now.write_faults
+Says disk words taken before now DiskFault =
+    HasRead (command_of words) taken now.left × (now.held ≡ before.held) × RealRose disk before.rack now.rack
+Says disk words taken before now NoMemory = now.held ≡ before.held
 
 -- some bytes were taken from the source's start, and the status is right for them
-pub record Ends (words : List (List ℕ)) (before now : Moment) (status : Status) : Type 0 where
+pub record Ends {T D : Type 0} (disk : Ghosts D) (words : List (List ℕ)) (before now : Moment T D) (status : Status) : Type 0 where
   pub taken : List ℕ
   pub gave : Gave taken before.left now.left
   pub few : length taken ≤ most_of (command_of words)
-  pub says : Says words taken before now status
+  pub says : Says disk words taken before now status
 
--- the same by the exit status, which is one of 0, 2, 3, 4, 5 and 7
-abbrev pub Answers : List (List ℕ) → Moment → Moment → ℕ → Type 0
-Answers words before now code = (status : Status) × (code ≡ code_of status) × Ends words before now status
+-- the same by the exit status, which is one of 0 and 2 to 8
+abbrev pub Answers : {T D : Type 0} → Ghosts D → List (List ℕ) → Moment T D → Moment T D → ℕ → Type 0
+Answers disk words before now code = (status : Status) × (code ≡ code_of status) × Ends disk words before now status
 
--- the outcome is the wanted one for a whole input, and it was answered
-abbrev pub IsDone : List (List ℕ) → List ℕ → Moment → Moment → ℕ → Type 0
-IsDone words input before now code =
-    (outcome : Outcome) × Wanted words input outcome × (code ≡ code_of outcome.status) × (now.held ≡ append_known before.held outcome.output)
+-- what is wanted for this input was done
+pub record IsDone {T D : Type 0} (words : List (List ℕ)) (input : List ℕ) (before now : Moment T D) (code : ℕ) : Type 0 where
+  pub outcome : Outcome
+  pub wanted : Wants (command_of words) input before.rack now.rack outcome
+  pub wanted_code : code ≡ code_of outcome.status
+  pub output : now.held ≡ append_known before.held outcome.output
 
--- What is wanted for a whole input was done. Else a count of faults rose, and 4 or 5 is answered for it, or 7 is.
-abbrev pub DoesAll : List (List ℕ) → List ℕ → Moment → Moment → ℕ → Type 0
-DoesAll words input before now code =
+-- What is wanted for a whole input was done. Else a count of faults rose, and 4, 5 or 6 is answered for it, or 7 is.
+abbrev pub DoesAll : {T D : Type 0} → Ghosts D → List (List ℕ) → List ℕ → Moment T D → Moment T D → ℕ → Type 0
+DoesAll disk words input before now code =
     IsDone words input before now code
     ⊎ (((code ≡ 4) × Rose before.read_faults now.read_faults)
     ⊎ (((code ≡ 5) × Rose before.write_faults now.write_faults)
-    ⊎ (code ≡ 7)))
+    ⊎ (((code ≡ 6) × RealRose disk before.rack now.rack)
+    ⊎ (code ≡ 7))))

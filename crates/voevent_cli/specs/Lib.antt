@@ -1,4 +1,5 @@
 -- What the program answers.
+pub mod Racks
 pub mod Lines
 pub mod Outcomes
 pub mod Documents

@@ -1,28 +1,50 @@
--- What was read and made before anything is written.
-use Rattle.std.specs.Prelude.{ℕ, ◌≤◌, List, length, Bool, true, false, Result, Ok, Err}
+-- What was read, made and done to the disks before anything is written.
+use Rattle.std.specs.Prelude.{◌≡◌, ℕ, ◌<◌, ◌≤◌, List, length, Bool, true, false, Result, Ok, Err}
 use Rattle.std.specs.declared.option.Option.{Option}
+use Rattle.voe_disk.specs.declared.disk.Disk.{Ghosts}
 use Rattle.voe_outside.specs.Causes.{Rose}
 use Rattle.voe_outside.specs.Whole.{Gave}
+use Rattle.voevent_cli.specs.Racks.{Disks, AreSame, RealRose}
+use Rattle.voevent_cli.specs.declared.command.Command.{Command}
 use Rattle.voevent_cli.specs.declared.outcome.Outcome.{Outcome}
 use Rattle.voevent_cli.specs.declared.prepare.Hindrance.{Hindrance}
-use Rattle.voevent_cli.specs.declared.prepare.Hindrance.TheVariants.{ReadFault, NoMemory}
-use Rattle.voevent_cli.specs.Wanted.{Wanted, command_of}
+use Rattle.voevent_cli.specs.declared.prepare.Hindrance.TheVariants.{ReadFault, DiskFault, NoMemory}
+use Rattle.voevent_cli.specs.Documents.{WantedOf, checked, shown}
+use Rattle.voevent_cli.specs.Wanted.{Acts, Wants, command_of, limit_of, wanted_of_net}
+use Rattle.voevent_cli.specs.declared.command.Command.TheVariants.{Net, Check, Show}
 use Rattle.voevent_cli.specs.Answers.{HasRead, IsWithin, most_of}
 
 -- these bytes were taken, and not too many
 abbrev pub Took : List (List ℕ) → List ℕ → Option (List ℕ) → Option (List ℕ) → Type 0
 Took words taken before now = Gave taken before now × (length taken ≤ most_of (command_of words))
 
-abbrev pub Prepares : List (List ℕ) → Option (List ℕ) → Option (List ℕ) → ℕ → ℕ → Result Outcome Hindrance → Type 0
-Prepares words before now faults_before faults_now (Ok outcome) =
-    (taken : List ℕ) × Took words taken before now × HasRead (command_of words) taken now × Wanted words taken outcome
-Prepares words before now faults_before faults_now (Err ReadFault) =
-    (taken : List ℕ) × Took words taken before now × IsWithin (command_of words) taken × Rose faults_before faults_now
-Prepares words before now faults_before faults_now (Err NoMemory) =
-    (taken : List ℕ) × Took words taken before now
+-- the outcome that a command has for every input above its limit, where it does nothing to the disks
+abbrev pub IsWantedAbove : Command → Outcome → Type 0
+IsWantedAbove Net outcome = (input : List ℕ) → limit_of Net < length input → outcome ≡ wanted_of_net input
+IsWantedAbove Check outcome = (input : List ℕ) → limit_of Check < length input → WantedOf checked input outcome
+IsWantedAbove Show outcome = (input : List ℕ) → limit_of Show < length input → WantedOf shown input outcome
+
+-- what a command did with its whole input
+abbrev pub Acted : {T D : Type 0} → Ghosts D → Command → List ℕ → Disks T D → Disks T D → Result Outcome Hindrance → Type 0
+Acted disk command input before now (Ok outcome) = Acts command input before now outcome
+Acted disk command input before now (Err ReadFault) = ⊥
+Acted disk command input before now (Err DiskFault) = RealRose disk before now
+Acted disk command input before now (Err NoMemory) = Unit {0}
+
+-- what was done of the words
+abbrev pub Prepares : {T D : Type 0} → Ghosts D → List (List ℕ) → Option (List ℕ) → Option (List ℕ) → ℕ → ℕ → Disks T D → Disks T D → Result Outcome Hindrance → Type 0
+Prepares disk words left left_now faults faults_now before now (Ok outcome) =
+    (taken : List ℕ) × Took words taken left left_now × HasRead (command_of words) taken left_now × Wants (command_of words) taken before now outcome
+Prepares disk words left left_now faults faults_now before now (Err ReadFault) =
+    (taken : List ℕ) × Took words taken left left_now × IsWithin (command_of words) taken × Rose faults faults_now × AreSame before now
+Prepares disk words left left_now faults faults_now before now (Err DiskFault) =
+    (taken : List ℕ) × Took words taken left left_now × HasRead (command_of words) taken left_now × RealRose disk before now
+Prepares disk words left left_now faults faults_now before now (Err NoMemory) =
+    (taken : List ℕ) × Took words taken left left_now
 
 -- a read failed
 abbrev pub is_unread : Result Outcome Hindrance → Bool
 is_unread (Ok outcome) = false
 is_unread (Err ReadFault) = true
+is_unread (Err DiskFault) = false
 is_unread (Err NoMemory) = false

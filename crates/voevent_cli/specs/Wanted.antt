@@ -1,4 +1,4 @@
--- What is wanted: a status and the bytes to write, for the words of a command line and the bytes of the input.
+-- What is wanted: a status and the bytes to write, for the words of a command line, the bytes of the input and the disks.
 use Rattle.std.specs.Prelude.{◌≡◌, ℕ, cond, List, [], ◌∷◌, Some, None, Result, Ok, Err, bytes_eq, codes}
 use Rattle.std.specs.declared.option.Option.{Option}
 use Rattle.net_model.specs.Runs.{after}
@@ -9,10 +9,11 @@ use Rattle.voe_scenario.specs.Scenarios.{Refusal, scenario_of}
 use Rattle.voe_scenario.specs.declared.scenario.Scenario.{Scenario}
 use Rattle.voevent_cli.specs.Documents.{WantedOf, checked, max_document, shown}
 use Rattle.voevent_cli.specs.Outcomes.{done, refused}
+use Rattle.voevent_cli.specs.Racks.{Disks, AreSame}
 use Rattle.voevent_cli.specs.declared.command.Command.{Command}
 use Rattle.voevent_cli.specs.declared.command.Command.TheVariants.{Net, Check, Show}
 use Rattle.voevent_cli.specs.declared.outcome.Status.{Status}
-use Rattle.voevent_cli.specs.declared.outcome.Status.TheVariants.{Done, Usage, Refused, ReadFault, WriteFault, NoMemory}
+use Rattle.voevent_cli.specs.declared.outcome.Status.TheVariants.{Done, Usage, Refused, ReadFault, WriteFault, DiskFault, NoMemory, JournalRefused}
 use Rattle.voevent_cli.specs.declared.outcome.Outcome.{Outcome}
 use Rattle.voevent_cli.specs.declared.refusal.Refusal.TheVariants.{Scenario as BadLine}
 
@@ -23,7 +24,9 @@ code_of Usage = 2
 code_of Refused = 3
 code_of ReadFault = 4
 code_of WriteFault = 5
+code_of DiskFault = 6
 code_of NoMemory = 7
+code_of JournalRefused = 8
 
 -- ---- the words
 
@@ -64,13 +67,13 @@ wanted_of_net input = reported (scenario_of input)
 abbrev pub usage : Outcome
 usage = record { status = Usage; output = codes "refused usage\n" }
 
--- the outcome is wanted of a command for an input
-abbrev pub WantedFor : Option Command → List ℕ → Outcome → Type 0
-WantedFor None input outcome = outcome ≡ usage
-WantedFor (Some Net) input outcome = outcome ≡ wanted_of_net input
-WantedFor (Some Check) input outcome = WantedOf checked input outcome
-WantedFor (Some Show) input outcome = WantedOf shown input outcome
+-- the outcome that a command has for an input, and what it does to the disks
+abbrev pub Acts : {T D : Type 0} → Command → List ℕ → Disks T D → Disks T D → Outcome → Type 0
+Acts Net input before now outcome = (outcome ≡ wanted_of_net input) × AreSame before now
+Acts Check input before now outcome = WantedOf checked input outcome × AreSame before now
+Acts Show input before now outcome = WantedOf shown input outcome × AreSame before now
 
--- The outcome is wanted of these words for an input. There is only one.
-abbrev pub Wanted : List (List ℕ) → List ℕ → Outcome → Type 0
-Wanted words input outcome = WantedFor (command_of words) input outcome
+-- what is wanted of a command line, by the command that it is, if it is one
+abbrev pub Wants : {T D : Type 0} → Option Command → List ℕ → Disks T D → Disks T D → Outcome → Type 0
+Wants None input before now outcome = (outcome ≡ usage) × AreSame before now
+Wants (Some command) input before now outcome = Acts command input before now outcome

@@ -18,8 +18,12 @@ pub enum Status {
     ReadFault,
     /// The output could not be written.
     WriteFault,
+    /// A disk failed.
+    DiskFault,
     /// There was no memory.
     NoMemory,
+    /// What a disk holds is refused.
+    JournalRefused,
 }
 
 impl Status {
@@ -33,7 +37,9 @@ impl Status {
             Status::Refused => 3,
             Status::ReadFault => 4,
             Status::WriteFault => 5,
+            Status::DiskFault => 6,
             Status::NoMemory => 7,
+            Status::JournalRefused => 8,
         }
     }
 }

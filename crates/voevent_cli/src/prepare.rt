@@ -1,10 +1,11 @@
-//! What is to be written, before any of it is.
+//! What is done and made before anything is written.
 
-ghost use Rattle.std.specs.Prelude.{◌≡◌, ◌<◌, ◌≤◌, ℕ, List, Some, length, IfOk};
-ghost use Rattle.voevent_cli.specs.Wanted.{WantedFor, command_of, limit_of};
+ghost use Rattle.std.specs.Prelude.{◌≡◌, ◌<◌, ◌≤◌, ℕ, List, length};
 ghost use Rattle.voe_outside.specs.Causes.{count_after};
 ghost use Rattle.voevent_cli.specs.Outcomes.{refused};
-ghost use Rattle.voevent_cli.specs.Prepared.{Prepares, is_unread};
+ghost use Rattle.voevent_cli.specs.Prepared.{Acted, IsWantedAbove, Prepares, is_unread};
+ghost use Rattle.voevent_cli.specs.Racks.{IsWhole, disks};
+ghost use Rattle.voevent_cli.specs.Wanted.{limit_of};
 
 use crate::check::answer_of_check;
 use crate::command::Command;
@@ -13,6 +14,7 @@ use crate::outcome::{Outcome, Status};
 use crate::refusal::Refusal;
 use crate::show::answer_of_show;
 use std::alloc::Global;
+use voe_disk::Rack;
 use voe_outside::{ReadFault, Source, read_all};
 use voe_values::{Bytes, NoMemory, Text};
 
@@ -20,6 +22,7 @@ use voe_values::{Bytes, NoMemory, Text};
 #[derive(Clone, Copy, Debug, PartialEq, Eq)]
 pub enum Hindrance {
     ReadFault,
+    DiskFault,
     NoMemory,
 }
 
@@ -34,21 +37,28 @@ impl From<NoMemory> for Hindrance {
     }
 }
 
-/// What a command answers to its whole input.
-fn answer_of(alloc: Global, command: Command, input: &[u8]) -> Result<Outcome, NoMemory>
-    requires { length input.now ≤ limit_of command }
-    ensures { IfOk result (WantedFor (Some command) input.now) }
+/// What a command answers to its whole input, over the disks of a rack.
+fn answer_of<R: Rack>(
+    alloc: Global,
+    command: Command,
+    input: &[u8],
+    _rack: &mut R,
+) -> Result<Outcome, Hindrance>
+    requires input { length input.now ≤ limit_of command }
+    requires whole { IsWhole (disks (λ k. R.trial _rack.old k) (R.real _rack.old)) }
+    ensures acted { Acted R.Real.Disk command input.now (disks (λ k. R.trial _rack.old k) (R.real _rack.old)) (disks (λ k. R.trial _rack.new k) (R.real _rack.new)) result }
+    ensures whole { IsWhole (disks (λ k. R.trial _rack.new k) (R.real _rack.new)) }
 {
     match command {
-        Command::Net => answer_of_net(alloc, input),
-        Command::Check => answer_of_check(alloc, input),
-        Command::Show => answer_of_show(alloc, input),
+        Command::Net => Ok(answer_of_net(alloc, input)?),
+        Command::Check => Ok(answer_of_check(alloc, input)?),
+        Command::Show => Ok(answer_of_show(alloc, input)?),
     }
 }
 
 /// Why a command refuses an input above its limit.
 fn refusal_above(command: Command) -> Refusal
-    ensures { (input : List ℕ) → limit_of command < length input → WantedFor (Some command) input (refused result) }
+    ensures { IsWantedAbove command (refused result) }
 {
     match command {
         Command::Net => Refusal::Scenario { number: 3, line: 0 },
@@ -56,14 +66,18 @@ fn refusal_above(command: Command) -> Refusal
     }
 }
 
-/// Reads what the words ask for, and makes the whole output.
-pub(crate) fn prepare<S: Source>(
+/// Reads what the words ask for, does it, and makes the whole output.
+pub(crate) fn prepare<S: Source, R: Rack>(
     alloc: Global,
     words: &[Text],
     source: &mut S,
+    rack: &mut R,
 ) -> Result<Outcome, Hindrance>
-    ensures prepares { Prepares words.now (S.left source.old) (S.left source.new) (S.fault_count source.old) (S.fault_count source.new) result }
+    requires whole { IsWhole (disks (λ k. R.trial rack.old k) (R.real rack.old)) }
+    ensures prepares { Prepares R.Real.Disk words.now (S.left source.old) (S.left source.new) (S.fault_count source.old) (S.fault_count source.new)
+        (disks (λ k. R.trial rack.old k) (R.real rack.old)) (disks (λ k. R.trial rack.new k) (R.real rack.new)) result }
     ensures faults { S.fault_count source.new ≡ count_after (S.fault_count source.old) (is_unread result) }
+    ensures whole { IsWhole (disks (λ k. R.trial rack.new k) (R.real rack.new)) }
 {
     let Some(command) = Command::of(words) else {
         return Ok(Outcome {
@@ -72,7 +86,7 @@ pub(crate) fn prepare<S: Source>(
         });
     };
     match read_all(alloc, source, command.limit()) {
-        Ok(input) => Ok(answer_of(alloc, command, input.as_slice())?),
+        Ok(input) => answer_of(alloc, command, input.as_slice(), rack),
         Err(ReadFault::TooLong) => Ok(refusal_above(command).outcome(alloc)?),
         Err(ReadFault::Failed) => Err(Hindrance::ReadFault),
         Err(ReadFault::NoMemory) => Err(Hindrance::NoMemory),
