@@ -1,6 +1,7 @@
 -- What the bytes of a packet are judged to be.
-use Rattle.std.specs.Prelude.{◌≡◌, ℕ, cond, Option, Some, None, codes}
+use Rattle.std.specs.Prelude.{◌≡◌, ℕ, cond, IsUtf8, Option, Some, None, codes}
 use Rattle.xml_lexer.specs.Characters.{Text}
+use Rattle.voe_values.specs.Identifier.{IsIdentifier}
 use Rattle.voe_tree.specs.Contents.{attribute_of}
 use Rattle.voe_tree.specs.Document.{Spells}
 use Rattle.voe_tree.specs.Fault.{RefusesTree}
@@ -56,3 +57,9 @@ IsJudged packet (Good identifier) = SpellsOne (λ root. IsJudgedRoot root (Good 
 abbrev pub HasTree : Text → Judged → Option Tree → Type 0
 HasTree packet judged None = (number : ℕ) × (judged ≡ BadTree number)
 HasTree packet judged (Some tree) = Spells tree.root packet × IsJudgedRoot tree.root judged
+
+-- the identifier of a good packet is one, in UTF-8
+abbrev pub IsNamed : Judged → Type 0
+IsNamed (BadTree number) = Unit {0}
+IsNamed (BadPacket number identifier) = Unit {0}
+IsNamed (Good identifier) = IsUtf8 identifier × IsIdentifier identifier

@@ -1,11 +1,11 @@
 //! What the bytes of a packet are.
 
-ghost use Rattle.std.specs.Prelude.{◌≡◌, ◌≤◌, IfOk, length};
+ghost use Rattle.std.specs.Prelude.{◌≡◌, ◌≤◌, IfOk, IfSome, IsUtf8, length};
 ghost use Rattle.xml_lexer.specs.Characters.{Text};
 ghost use Rattle.voe_values.specs.Identifier.{IsIdentifier};
 ghost use Rattle.net_model.specs.declared.step.Judged.{Judged as Judgement};
 ghost use Rattle.net_model.specs.declared.step.Judged.TheVariants.{Good};
-ghost use Rattle.voe_validity.specs.Judging.{number_of_fault, identifier_of, IsJudgedRoot, IsJudged, HasTree};
+ghost use Rattle.voe_validity.specs.Judging.{number_of_fault, identifier_of, IsJudgedRoot, IsJudged, IsNamed, HasTree};
 
 use crate::validity::valid;
 use net_model::Judged;
@@ -22,10 +22,11 @@ pub struct Judging {
 
 /// Reads a packet and judges it: no tree, by the number of the rule that refuses the bytes (T01 to T10); no valid packet,
 /// by the least rule that the tree breaks (V01 to V12), with the root's identifier exactly where it has one; or a good
-/// packet. The tree is handed out for the filters.
+/// packet, whose identifier is UTF-8. The tree is handed out for the filters.
 pub fn judge(alloc: Global, packet: &[u8]) -> Result<Judging, NoMemory>
     requires { length packet.now ≤ 1048576 }
     ensures judged { IfOk result (λ judging. IsJudged packet.now judging.judged) }
+    ensures named { IfOk result (λ judging. IsNamed judging.judged) }
     ensures tree { IfOk result (λ judging. HasTree packet.now judging.judged judging.tree) }
 {
     match read_tree(alloc, packet) {
@@ -67,7 +68,8 @@ pub fn fault_number(fault: TreeFault) -> Option<u8>
 
 /// What the tree is as a packet.
 fn judge_root(alloc: Global, tree: &Tree) -> Result<Judged, NoMemory>
-    ensures { IfOk result (IsJudgedRoot tree.now.root) }
+    ensures judged { IfOk result (IsJudgedRoot tree.now.root) }
+    ensures named { IfOk result IsNamed }
 {
     let identifier = identifier(alloc, tree.root())?;
     match valid(tree) {
@@ -81,7 +83,8 @@ fn judge_root(alloc: Global, tree: &Tree) -> Result<Judged, NoMemory>
 
 /// The root's identifier, exactly where its `ivorn` is one.
 fn identifier(alloc: Global, root: &Element) -> Result<Option<Bytes>, NoMemory>
-    ensures { IfOk result (λ found. found ≡ identifier_of root.now) }
+    ensures found { IfOk result (λ found. found ≡ identifier_of root.now) }
+    ensures named { IfOk result (λ found. IfSome found (λ identifier. IsUtf8 identifier × IsIdentifier identifier)) }
 {
     match root.attribute("ivorn") {
         None => Ok(None),
