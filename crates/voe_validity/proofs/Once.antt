@@ -7,6 +7,7 @@ use Rattle.xml_lexer.specs.Phases.{without_mark, IsTokensOf, RefusesText, Refuse
 use Rattle.xml_lexer.proofs.Cuts.{same_tokens}
 use Rattle.xml_lexer.proofs.Exclusion.{text_first, token_first, token_place, many_first}
 use Rattle.voe_values.specs.Identifier.{IsIdentifier, first_fault}
+use Rattle.voe_tree.specs.Identifier.{if_identifier}
 use Rattle.voe_tree.specs.Rules.{Rule, unbalanced, too_deep, repeated_attribute, unbound_prefix, root_missing, after_root, refusal_of}
 use Rattle.voe_tree.specs.Document.{Spells}
 use Rattle.voe_tree.specs.Fault.{BreaksAt, RefusesTree}
@@ -17,7 +18,7 @@ use Rattle.voe_tree.specs.Document.{IsRootOf}
 use Rattle.voe_tree.proofs.RootLaws.{same_root as same_built}
 use Rattle.net_model.specs.declared.step.Judged.{Judged}
 use Rattle.net_model.specs.declared.step.Judged.TheVariants.{BadTree, BadPacket, Good}
-use Rattle.voe_validity.specs.Judging.{number_of_fault, as_identifier, IsJudgedRoot, IsJudged, SpellsOne}
+use Rattle.voe_validity.specs.Judging.{number_of_fault, IsJudgedRoot, IsJudged, SpellsOne}
 
 abbrev rule_number : Rule → ℕ
 rule_number unbalanced = 5
@@ -150,7 +151,7 @@ named_by : (value identifier : Text) (found : Option (ℕ × ℕ)) → first_fau
 named_by value identifier None f e = subst (λ (s : Text). first_fault s ≡ None) (cc) f
 named_by value identifier (Some fault) f e = absurd (cc)
 
-named_text : (found : Option Text) (identifier : Text) → Some identifier ≡ as_identifier found → IsIdentifier identifier
+named_text : (found : Option Text) (identifier : Text) → Some identifier ≡ if_identifier found → IsIdentifier identifier
 named_text None identifier e = absurd (cc)
 named_text (Some value) identifier e = named_by value identifier (first_fault value) refl e
 

@@ -1,11 +1,10 @@
 -- What the bytes of a packet are judged to be.
-use Rattle.std.specs.Prelude.{◌≡◌, ℕ, cond, IsUtf8, Option, Some, None, codes}
+use Rattle.std.specs.Prelude.{◌≡◌, ℕ, IsUtf8, Option, Some, None}
 use Rattle.xml_lexer.specs.Characters.{Text}
 use Rattle.voe_values.specs.Identifier.{IsIdentifier}
-use Rattle.voe_tree.specs.Contents.{attribute_of}
 use Rattle.voe_tree.specs.Document.{Spells}
 use Rattle.voe_tree.specs.Fault.{RefusesTree}
-use Rattle.voe_tree.specs.Identifier.{is_identifier}
+use Rattle.voe_tree.specs.Identifier.{identifier_of}
 use Rattle.voe_tree.specs.Validity.{least_broken_row}
 use Rattle.voe_tree.specs.declared.element.Element.{Element}
 use Rattle.voe_tree.specs.declared.element.Tree.{Tree}
@@ -27,15 +26,6 @@ number_of_fault (UnboundPrefix token) = Some 8
 number_of_fault RootMissing = Some 9
 number_of_fault (AfterRoot token) = Some 10
 number_of_fault NoMemory = None
-
--- the text, where it is an identifier
-abbrev pub as_identifier : Option Text → Option Text
-as_identifier None = None
-as_identifier (Some value) = cond (is_identifier value) (Some value) None
-
--- the root's attribute `ivorn`, exactly where it is an identifier
-abbrev pub identifier_of : Element → Option Text
-identifier_of root = as_identifier (attribute_of root (codes "ivorn"))
 
 -- What the tree of this root is as a packet: the least rule that it breaks, or its identifier.
 abbrev pub IsJudgedRoot : Element → Judged → Type 0

@@ -3,9 +3,10 @@
 ghost use Rattle.std.specs.Prelude.{◌≡◌, ◌≤◌, IfOk, IfSome, IsUtf8, length};
 ghost use Rattle.xml_lexer.specs.Characters.{Text};
 ghost use Rattle.voe_values.specs.Identifier.{IsIdentifier};
+ghost use Rattle.voe_tree.specs.Identifier.{identifier_of};
 ghost use Rattle.net_model.specs.declared.step.Judged.{Judged as Judgement};
 ghost use Rattle.net_model.specs.declared.step.Judged.TheVariants.{Good};
-ghost use Rattle.voe_validity.specs.Judging.{number_of_fault, identifier_of, IsJudgedRoot, IsJudged, IsNamed, HasTree};
+ghost use Rattle.voe_validity.specs.Judging.{number_of_fault, IsJudgedRoot, IsJudged, IsNamed, HasTree};
 
 use crate::validity::valid;
 use net_model::Judged;
