@@ -10,3 +10,7 @@ pub mod Below
 pub mod Free
 pub mod Rooms
 pub mod Made
+pub mod EndFound
+pub mod EndReady
+pub mod EndAdding
+pub mod EndReplies

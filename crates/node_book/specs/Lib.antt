@@ -6,3 +6,6 @@ pub mod Keeps
 pub mod Making
 pub mod Reading
 pub mod Records
+pub mod Ends
+pub mod EndSteps
+pub mod EndMaking
