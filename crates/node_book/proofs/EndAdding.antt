@@ -1,12 +1,10 @@
 -- What becomes of a note that is added to a book.
-use Rattle.std.proofs.Common.{◌≡◌, ◌⊎◌, inl, inr, ℕ, ◌<◌, Bool, true, false, List, [], ◌∷◌, ◌++◌, Some, None, refl, sym, ◌∙◌, ap, subst}
-use Rattle.std.specs.Prelude.{Option, if◌then◌else◌}
+use Rattle.std.proofs.Common.{◌≡◌, ◌⊎◌, inl, inr, ℕ, ◌<◌, Bool, true, false, List, [], Some, None, refl, sym, ◌∙◌, ap, subst}
 use Rattle.std.proofs.lemmas.List.{append-nil}
 use Rattle.voe_disk.specs.Disk.{Rose}
 use Rattle.voe_disk.specs.Runs.{LeavesOnly, Untouched}
 use Rattle.voe_disk.specs.declared.disk.Disk.{Ghosts}
 use Rattle.voe_disk.specs.declared.fail.DiskFail.TheVariants.{Fault, Stopped}
-use Rattle.gate_journal.specs.Format.{is_kept}
 use Rattle.net_model.specs.Steps.{adds}
 use Rattle.net_model.specs.declared.note.Note.{Note}
 use Rattle.node_book.specs.Book.{BookView}
@@ -14,9 +12,8 @@ use Rattle.node_book.specs.Fault.{ComesFromDisk}
 use Rattle.node_book.specs.Keeps.{Keeps, KeepsBeforeOrAfter, has_room, kept_notes}
 use Rattle.node_book.specs.declared.fault.BookFault.{BookFault}
 use Rattle.node_book.specs.declared.fault.BookFault.TheVariants as book
-use Rattle.node_book.specs.Ends.{EndView, IsSound, book_of}
+use Rattle.node_book.specs.Ends.{EndView, book_of}
 use Rattle.node_book.specs.EndSteps.{HasAnswered, HasFallen, Happens, IsNotAdded, IsReady, IsUnchanged, KeepsEither, added_of, fate_of_added}
-use Rattle.node_book.specs.declared.added.Added.{Added}
 use Rattle.node_book.specs.declared.added.Added.TheVariants.{Kept, Full}
 
 -- the note was not added

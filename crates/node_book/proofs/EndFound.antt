@@ -1,11 +1,9 @@
 -- What is found among notes is given by one of them.
-use Rattle.std.proofs.Common.{◌≡◌, ◌⊎◌, inl, inr, ℕ, ◌+◌, zero, suc, Bool, true, false, List, [], ◌∷◌, Some, None, refl, sym, ◌∙◌, ap, arith}
-use Rattle.std.specs.Prelude.{Option, cond, slice_get, nat_lt, ◌&&◌, IsSome}
-use Rattle.std.specs.Option.{option_map}
+use Rattle.std.proofs.Common.{◌≡◌, ℕ, ◌+◌, zero, suc, Bool, true, false, List, [], ◌∷◌, Some, None, refl, ap, arith}
+use Rattle.std.specs.Prelude.{Option, cond, slice_get, nat_lt, ◌&&◌}
 use Rattle.net_model.specs.Notes.{Offer, Placed, first_from, is_open, lists, offer, or_later, to_send}
 use Rattle.net_model.specs.declared.note.Note.{Note}
 use Rattle.net_model.specs.declared.note.Note.TheVariants.{Wrote, Acked, Refused, Accept, Done, Enter}
-use Rattle.node_notes.specs.Open.{place_of}
 use Rattle.node_book.specs.EndSteps.{offered_by, offered_at}
 
 cond_gives : (b : Bool) (x : Option Offer) (o : Offer) → cond b None x ≡ Some o → x ≡ Some o

@@ -1,17 +1,15 @@
 -- Ends that are up and sound.
-use Rattle.std.proofs.Common.{◌≡◌, inl, ℕ, ◌≤◌, Bool, true, false, List, [], ◌∷◌, ◌++◌, Some, None, refl, sym, ◌∙◌, ap, subst, arith}
-use Rattle.std.specs.Prelude.{cond, Option, ◌↔◌, IsSome}
+use Rattle.std.proofs.Common.{◌≡◌, inl, ℕ, Bool, true, false, List, [], ◌++◌, refl, sym, ◌∙◌, ap, arith}
 use Rattle.std.proofs.lemmas.List.{append-nil}
 use Rattle.voe_disk.specs.Runs.{LeavesOnly}
 use Rattle.voe_disk.specs.declared.disk.Disk.{Ghosts}
 use Rattle.gate_journal.specs.Device.{IsSameDisk}
-use Rattle.net_model.specs.Steps.{Outcome, adds, says}
+use Rattle.net_model.specs.Steps.{Outcome, adds}
 use Rattle.net_model.specs.declared.note.Note.{Note}
 use Rattle.node_notes.specs.declared.config.Config.{Config}
 use Rattle.node_book.specs.Keeps.{Keeps}
-use Rattle.node_book.specs.Ends.{EndView, IsSound, after_step}
+use Rattle.node_book.specs.Ends.{EndView, after_step}
 use Rattle.node_book.specs.EndSteps.{Fate, HasAnswered, HasFallen, Happens, IsReady, IsUnchanged, KeepsEither, KeepsRest, answered, is_down, lacked_memory}
-use Rattle.node_book.specs.declared.added.Added.{Added}
 use Rattle.node_book.specs.declared.added.Added.TheVariants.{Kept, Full}
 
 module _ {D : Type 0} (disk : Ghosts D) where

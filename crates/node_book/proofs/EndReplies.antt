@@ -1,9 +1,8 @@
 -- Outcomes of the network's steps at an end, and what becomes of them.
-use Rattle.std.proofs.Common.{◌≡◌, ℕ, ◌<◌, ◌≤◌, Bool, true, false, List, [], ◌∷◌, length, Some, None, refl, sym, ◌∙◌, ap, subst}
-use Rattle.std.specs.Prelude.{Option, cond, ◌&&◌, not, nat_le, nat_lt, is_none, IsUtf8}
+use Rattle.std.proofs.Common.{◌≡◌, ℕ, ◌<◌, ◌≤◌, Bool, true, false, List, length, Some, refl, sym, ◌∙◌, ap}
+use Rattle.std.specs.Prelude.{cond, ◌&&◌, is_none, IsUtf8}
 use Rattle.std.proofs.lemmas.Bool.{le-leb, lt-ltb}
 use Rattle.voe_disk.specs.declared.disk.Disk.{Ghosts}
-use Rattle.voe_values.specs.declared.kind.NodeKind.{NodeKind}
 use Rattle.voe_values.specs.declared.kind.NodeKind.TheVariants.{Author, Broker, Subscriber}
 use Rattle.net_model.specs.Notes.{is_open, knows}
 use Rattle.net_model.specs.Rules.{NodeRules}
@@ -11,7 +10,6 @@ use Rattle.net_model.specs.Steps.{Outcome, adds, known_answer, reply_to, says, s
 use Rattle.net_model.specs.declared.note.Note.{Note}
 use Rattle.net_model.specs.declared.note.Note.TheVariants.{Wrote, Acked, Refused, Accept, Done, Enter}
 use Rattle.net_model.specs.declared.state.NakCode.TheVariants.{Full as NoRoom}
-use Rattle.net_model.specs.declared.state.Verdict.{Verdict}
 use Rattle.net_model.specs.declared.state.Verdict.TheVariants.{Ack, Nak}
 use Rattle.voe_values.specs.Identifier.{IsIdentifier}
 use Rattle.node_notes.proofs.Texts.{identifier_is}

@@ -1,6 +1,6 @@
 -- The making, loading and arming of an end.
 use Rattle.std.specs.Prelude.{◌≡◌, ◌⊎◌, ◌↔◌, ℕ, List, [], Option, Some, None, IfSome}
-use Rattle.voe_disk.specs.Disk.{Arming, IsDurable, OneStep, Rose}
+use Rattle.voe_disk.specs.Disk.{IsDurable, OneStep, Rose}
 use Rattle.voe_disk.specs.Runs.{LeavesOnly, Untouched}
 use Rattle.voe_disk.specs.declared.disk.Disk.{Ghosts}
 use Rattle.gate_journal.specs.Device.{IsSameDisk}
