@@ -7,3 +7,4 @@ pub mod Stacks
 pub mod TokensRead
 pub mod Sizes
 pub mod Exclusion
+pub mod Written

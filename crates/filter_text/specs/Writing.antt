@@ -46,10 +46,15 @@ abbrev mutual
   condition_text in_and (alone o) = operand_text o
   condition_text in_and (compare a how b) = operand_text a ++ comparison_text how ++ operand_text b
 
+  -- these with a word between
   pub listed_text : Text → Bool → Conditions → Text
   listed_text word in_and no_more = []
-  listed_text word in_and (more c no_more) = condition_text in_and c
-  listed_text word in_and (more c (more d cs)) = condition_text in_and c ++ word ++ listed_text word in_and (more d cs)
+  listed_text word in_and (more c cs) = condition_text in_and c ++ others_text word in_and cs
+
+  -- each behind the word
+  pub others_text : Text → Bool → Conditions → Text
+  others_text word in_and no_more = []
+  others_text word in_and (more c cs) = word ++ condition_text in_and c ++ others_text word in_and cs
 
   pub operand_text : Operand → Text
   operand_text (found way) = path_text way

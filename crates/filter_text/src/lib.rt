@@ -13,7 +13,9 @@ mod read;
 mod state;
 mod symbol;
 mod walk;
+mod write;
 
 pub use fault::FilterFault;
 pub use filter::{Axis, Comparison, Condition, Operand, Part, Path, Step, Test};
 pub use read::read_path;
+pub use write::write_path;
