@@ -8,3 +8,5 @@ pub mod TokensRead
 pub mod Sizes
 pub mod Exclusion
 pub mod Written
+pub mod Pieces
+pub mod PieceTexts
