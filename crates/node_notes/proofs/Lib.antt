@@ -6,3 +6,4 @@ pub mod Payloads
 pub mod Rising
 pub mod Shapes
 pub mod Refusing
+pub mod Holding

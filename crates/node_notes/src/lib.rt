@@ -7,11 +7,13 @@
 mod config;
 mod fault;
 mod forms;
+mod laws;
 mod reading;
 mod writing;
 
 pub use config::{Config, LinkConfig};
 pub use fault::ReadFault;
 pub use forms::{is_config, keeps_form};
+pub use laws::{first_found, held_packet, open_is_held};
 pub use reading::{read_config, read_note};
 pub use writing::{note_len, write_config, write_note};
