@@ -24,7 +24,7 @@ use crate::opening::read_records;
 use crate::records::Records;
 use gate_journal::Journal;
 use net_model::Note;
-use node_notes::Config;
+use node_notes::{Config, keeps_form};
 use std::alloc::Global;
 use std::marker::Model;
 use voe_digest::Digest;
@@ -226,6 +226,13 @@ impl<D: Disk> Book<D> {
     {
         let Book { journal, .. } = self;
         journal.into_disk()
+    }
+
+    /// Whether a note keeps to its form, and may stand behind the others: `add` asks for it. It takes no memory.
+    pub fn may_add(&self, note: &Note) -> bool
+        ensures { result ≡ is_next self.now.config self.now.notes note.now }
+    {
+        keeps_form(&self.records.config, note) && self.records.may_follow(note)
     }
 
     /// Adds a note that may stand behind the others, or hands it back. After `Ok` each crash from then on leaves a book

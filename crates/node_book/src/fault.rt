@@ -4,6 +4,7 @@ ghost use Rattle.std.specs.Prelude.{◌≡◌};
 
 use gate_journal::JournalFault;
 use std::alloc::AllocError;
+use voe_values::NoMemory;
 
 /// Why a call of a book failed. Places are bytes of the disk, counted from 0.
 #[derive(Clone, Copy, Debug, PartialEq, Eq)]
@@ -34,6 +35,16 @@ impl From<AllocError> for BookFault {
     ghost from_gives = { λ _ e. e ≡ OutOfMemory };
 
     fn from(_: AllocError) -> Self {
+        BookFault::NoMemory
+    }
+}
+
+impl From<NoMemory> for BookFault {
+    ghost use Rattle.node_book.specs.declared.fault.BookFault.TheVariants.{NoMemory as OutOfMemory};
+
+    ghost from_gives = { λ _ e. e ≡ OutOfMemory };
+
+    fn from(_: NoMemory) -> Self {
         BookFault::NoMemory
     }
 }
