@@ -1,0 +1,199 @@
+use Rattle.std.proofs.Common.{◌≡◌, ◌↔◌, Some, true, ◌⊎◌, inl, inr, ◌≤◌, ◌<◌, ◌+◌, ℕ, suc, IsTrue, length, map, arith, refl, sym, ◌∙◌, ap, subst}
+use Rattle.std.specs.List.{slice_get}
+use Rattle.voe_tree.specs.Contents.{elements_in, string_of}
+use Rattle.voe_tree.specs.Shape.{depth}
+use Rattle.filter_text.specs.Size.{size_of_steps, size_of_conditions, steps_in_steps}
+use Rattle.path_filter.specs.Search.{OneOf, after}
+use Rattle.path_filter.specs.Positions.{Has}
+use Rattle.filter_text.specs.View.{condition_of, conditions_of, front_of, steps_of, path_of, test_of}
+use Rattle.path_filter.specs.Wanted.{Suits, size_of_wanted}
+use Rattle.path_filter.specs.Evaluate.{Goes, Stays, SearchFinds, OwnFinds, OwnAttribute, PathFindsWanted, Next, NextBelow}
+use Rattle.path_filter.proofs.PositionLaws.{fewer, after-at, search-in, search-here, search-own, search-children}
+use Rattle.path_filter.proofs.Ranks.{falls-size, falls-within, child_depth, some_depth}
+use Rattle.path_filter.proofs.EvaluateSteps.{read, one-next, one-past, element-next, text-next, element-one, search-same, Attributes, own-in, own-out, step-sizes, positive, added, not_added, advanced, skipped, contra, meets-as, below-more, document-in, document-out}
+use Rattle.path_filter.proofs.SearchLaws.{one-at}
+use Rattle.path_filter.proofs.Views.{path-out}
+use Rattle.filter_text.specs.Filter.{path}
+use Rattle.std.specs.Bool.{◌==◌}
+use Rattle.filter_text.specs.declared.filter.Path.{out-Path}
+use Rattle.voe_tree.specs.declared.element.Node.TheVariants as tree
+use Rattle.path_filter.proofs.evaluate.+evaluate.Goals.{advance-then-has+then-goes, advance-then-stays, advance-else-stays, advance-then-has+else-goes, advance-else-has, own_attribute-else-meets-via-then-meets+else-suits, own_attribute-else-meets-via-else-meets, own_attributes-else-has-via-then-has+else-own_attribute, own_attributes-else-has-via-else-has, search-else-has-via-then-has+else-suits, search-else-has-via-else-has, search-in-Element+else-search, search-in-Text}
+use Rattle.path_filter.proofs.evaluate.+evaluate.Goals as goal
+
+pub advance-has-requires : goal.advance-has-requires
+advance-has-requires t c = omega (arith, fewer c.args.steps.now, c.requires.small, c.loop-i-test.true)
+
+pub advance-add-requires : goal.advance-add-requires
+advance-add-requires t c = omega (arith, fewer c.args.steps.now, c.requires.small, c.loop-i-test.true)
+
+pub advance-goes-requires : goal.advance-goes-requires
+advance-goes-requires t c =
+    let at = read c.args.steps.now c.loop-i.i c.index-steps-i.result c.loop-i-test.true c.index-steps-i.is in
+    let sizes = step-sizes c.args.steps.now c.loop-i.i c.index-steps-i.result at in
+    (omega (arith, c.decreases, falls-size _ _ 0 0 c.args.root.now sizes.0 (omega arith)), (c.requires.shallow, (c.requires.inside, omega (arith, sizes.1, c.requires.small))))
+
+pub advance-add-requires-then-goes : goal.advance-add-requires-then-goes
+advance-add-requires-then-goes t c = omega (arith, fewer c.args.steps.now, c.requires.small, c.loop-i-test.true)
+
+pub advance-loop-i-preserved : goal.advance-loop-i-preserved
+advance-loop-i-preserved t c =
+    let at = read c.args.steps.now c.loop-i.i c.index-steps-i.result c.loop-i-test.true c.index-steps-i.is in
+    let here = after-at c.args.steps.now c.loop-i.i c.index-steps-i.result at in
+    let rest = after (suc c.loop-i.i) (steps_of c.args.steps.now) in
+    elim c.if-has.branch [
+      | advance-then-has+then-goes w ↦
+          advanced c.args.steps.now (Has c.args.reached.now) (Has c.loop-i.next) (Has w.if-stays.next) (Has c.if-has.next) c.args.root.now c.args.at.now c.loop-i.i (c.has.ensures.0 w.if-has.true) c.loop-i.invariant
+          (elim w.if-stays.branch [
+            | advance-then-stays v ↦ subst (λ p. (j : ℕ) → Has p j ↔ (Has c.loop-i.next j ⊎ ((j ≡ c.loop-i.i) × Stays (after c.loop-i.i (steps_of c.args.steps.now))))) (sym v.next-is)
+                (added (Has c.loop-i.next) _ c.loop-i.i (Stays (after c.loop-i.i (steps_of c.args.steps.now))) v.add.ensures (subst Stays (sym here) ((w.stays.ensures rest).0 v.if-stays.true)))
+            | advance-else-stays v ↦ subst (λ p. (j : ℕ) → Has p j ↔ (Has c.loop-i.next j ⊎ ((j ≡ c.loop-i.i) × Stays (after c.loop-i.i (steps_of c.args.steps.now))))) (sym v.next-is)
+                (not_added (Has c.loop-i.next) c.loop-i.i (Stays (after c.loop-i.i (steps_of c.args.steps.now))) (λ s. contra _ ((w.stays.ensures rest).1 (subst Stays here s)) v.if-stays.false))
+          ])
+          (subst (λ p. (j : ℕ) → Has p j ↔ (Has w.if-stays.next j ⊎ ((j ≡ c.loop-i.i + 1) × Goes (after c.loop-i.i (steps_of c.args.steps.now)) c.args.root.now c.args.at.now))) (sym w.next-is)
+          (added (Has w.if-stays.next) _ (c.loop-i.i + 1) (Goes (after c.loop-i.i (steps_of c.args.steps.now)) c.args.root.now c.args.at.now) w.add-then-goes.ensures (subst (λ s. Goes s c.args.root.now c.args.at.now) (sym here) ((w.goes.ensures rest).0 w.if-goes.true))))
+      | advance-then-has+else-goes w ↦
+          advanced c.args.steps.now (Has c.args.reached.now) (Has c.loop-i.next) (Has w.if-stays.next) (Has c.if-has.next) c.args.root.now c.args.at.now c.loop-i.i (c.has.ensures.0 w.if-has.true) c.loop-i.invariant
+          (elim w.if-stays.branch [
+            | advance-then-stays v ↦ subst (λ p. (j : ℕ) → Has p j ↔ (Has c.loop-i.next j ⊎ ((j ≡ c.loop-i.i) × Stays (after c.loop-i.i (steps_of c.args.steps.now))))) (sym v.next-is)
+                (added (Has c.loop-i.next) _ c.loop-i.i (Stays (after c.loop-i.i (steps_of c.args.steps.now))) v.add.ensures (subst Stays (sym here) ((w.stays.ensures rest).0 v.if-stays.true)))
+            | advance-else-stays v ↦ subst (λ p. (j : ℕ) → Has p j ↔ (Has c.loop-i.next j ⊎ ((j ≡ c.loop-i.i) × Stays (after c.loop-i.i (steps_of c.args.steps.now))))) (sym v.next-is)
+                (not_added (Has c.loop-i.next) c.loop-i.i (Stays (after c.loop-i.i (steps_of c.args.steps.now))) (λ s. contra _ ((w.stays.ensures rest).1 (subst Stays here s)) v.if-stays.false))
+          ])
+          (subst (λ p. (j : ℕ) → Has p j ↔ (Has w.if-stays.next j ⊎ ((j ≡ c.loop-i.i + 1) × Goes (after c.loop-i.i (steps_of c.args.steps.now)) c.args.root.now c.args.at.now))) (sym w.next-is)
+          (not_added (Has w.if-stays.next) (c.loop-i.i + 1) (Goes (after c.loop-i.i (steps_of c.args.steps.now)) c.args.root.now c.args.at.now) (λ g. contra _ ((w.goes.ensures rest).1 (subst (λ s. Goes s c.args.root.now c.args.at.now) here g)) w.if-goes.false)))
+      | advance-else-has w ↦
+          subst (λ p. (j : ℕ) → Has p j ↔ NextBelow (c.loop-i.i + 1) c.args.steps.now (Has c.args.reached.now) c.args.root.now c.args.at.now j) (sym w.next-is)
+          (skipped c.args.steps.now (Has c.args.reached.now) (Has c.loop-i.next) c.args.root.now c.args.at.now c.loop-i.i (λ r. contra _ (c.has.ensures.1 r) w.if-has.false) c.loop-i.invariant)
+    ]
+
+pub finds-returns : goal.finds-returns
+finds-returns t c =
+    let steps_are = c.as_slice-steps.ensures in
+    let opened : path_of c.args.path.now ≡ path true (steps_of c.as_slice-steps.result.now) =
+    path-out c.args.path.now ∙ ap (λ b. path b (steps_of (out-Path c.args.path.now).steps)) c.if-not-path.false ∙ ap (λ ss. path true (steps_of ss)) (sym steps_are) in
+    let some : length c.as_slice-steps.result.now ≡ 0 → ⊥ = λ none. contra (length c.as_slice-steps.result.now == 0) (rw none refl) (sym c.is_empty.ensures ∙ c.if-is_empty.false) in (
+      (λ found. subst (λ p. PathFindsWanted p c.args.root.now c.args.at.now c.args.wanted.now) (sym opened)
+          (document-out c.as_slice-steps.result.now (Has c.only-start.result) c.args.root.now c.args.wanted.now (λ i. (c.only-start.ensures i).0)
+          (search-same c.as_slice-steps.result.now (Has c.advance-reached.result) (Next c.as_slice-steps.result.now (Has c.only-start.result) c.args.root.now c.args.root.now) c.args.root.now c.args.root.now c.args.wanted.now (λ j. (c.advance-reached.ensures j).0) (c.search-2.ensures.0 found)))),
+      (λ found. c.search-2.ensures.1
+          (search-same c.as_slice-steps.result.now (Next c.as_slice-steps.result.now (Has c.only-start.result) c.args.root.now c.args.root.now) (Has c.advance-reached.result) c.args.root.now c.args.root.now c.args.wanted.now (λ j. (c.advance-reached.ensures j).1)
+          (document-in c.as_slice-steps.result.now (Has c.only-start.result) c.args.root.now c.args.wanted.now (λ i. (c.only-start.ensures i).1) some
+          (subst (λ p. PathFindsWanted p c.args.root.now c.args.at.now c.args.wanted.now) opened found)))),
+    )
+
+pub own_attribute-loop-attribute-init : goal.own_attribute-loop-attribute-init
+own_attribute-loop-attribute-init t c = λ rest found. subst (OneOf _) (sym c.as_slice-attribute-items.ensures) (own-in c.args.step.now rest c.args.root.now c.args.at.now c.args.wanted.now found).1
+
+pub own_attribute-returns-then-suits : goal.own_attribute-returns-then-suits
+own_attribute-returns-then-suits t c =
+    let at = read c.as_slice-attribute-items.result.now c.loop-attribute.attribute-index c.attribute-item.result c.loop-attribute-test.true c.attribute-item.is in
+    let meets = meets-as (test_of c.args.step.now.test) _ _ _ _ c.as_str.ensures c.as_str-in-loop-attribute.ensures (c.meets.ensures.0 c.if-meets.true) in
+    let suits = subst (Suits c.args.wanted.now c.args.root.now) c.as_str-then-meets.ensures (c.suits.ensures.0 c.if-suits.true) in
+    let one : Attributes c.args.step.now c.args.root.now c.args.at.now c.args.wanted.now = subst (OneOf _) c.as_slice-attribute-items.ensures (one-at _ _ _ _ at (meets, suits)) in
+    λ rest. ((λ _. own-out c.args.step.now rest c.args.root.now c.args.at.now c.args.wanted.now (c.names_attributes.ensures.0 c.if-not-names_attributes.false) one), (λ _. refl))
+
+pub own_attribute-loop-attribute-preserved : goal.own_attribute-loop-attribute-preserved
+own_attribute-loop-attribute-preserved t c =
+    let at = read c.as_slice-attribute-items.result.now c.loop-attribute.attribute-index c.attribute-item.result c.loop-attribute-test.true c.attribute-item.is in
+    λ rest found. one-next _ _ c.loop-attribute.attribute-index c.attribute-item.result at
+    (λ p. elim c.else-meets.branch [
+      | own_attribute-else-meets-via-then-meets+else-suits w ↦ contra _ (w.suits.ensures.1 (subst (Suits c.args.wanted.now c.args.root.now) (sym w.as_str-then-meets.ensures) p.1)) w.if-suits.false
+      | own_attribute-else-meets-via-else-meets w ↦ contra _ (c.meets.ensures.1 (meets-as (test_of c.args.step.now.test) _ _ _ _ (sym c.as_str.ensures) (sym c.as_str-in-loop-attribute.ensures) p.0)) w.if-meets.false
+    ])
+    (c.loop-attribute.invariant rest found)
+
+pub own_attribute-returns : goal.own_attribute-returns
+own_attribute-returns t c = λ rest. ((λ claim. absurd (contra _ claim refl)), (λ found. absurd (one-past _ c.as_slice-attribute-items.result.now c.loop-attribute.attribute-index (omega (arith, c.loop-attribute-test.false)) (c.loop-attribute.invariant rest found))))
+
+pub own_attributes-has-requires : goal.own_attributes-has-requires
+own_attributes-has-requires t c = omega (arith, fewer c.args.steps.now, c.requires.small, c.loop-i-test.true)
+
+pub own_attributes-returns-then-own_attribute : goal.own_attributes-returns-then-own_attribute
+own_attributes-returns-then-own_attribute t c =
+    let at = read c.args.steps.now c.loop-i.i c.index-steps-i.result c.loop-i-test.true c.index-steps-i.is in (
+      (λ _. (
+        c.loop-i.i,
+        c.has.ensures.0 c.if-has.true,
+        c.loop-i-test.true,
+        subst (λ s. OwnAttribute s c.args.root.now c.args.at.now c.args.wanted.now) (sym (after-at c.args.steps.now c.loop-i.i c.index-steps-i.result at)) ((c.own_attribute.ensures (after (suc c.loop-i.i) (steps_of c.args.steps.now))).0 c.if-own_attribute.true),
+      )),
+      (λ _. refl),
+    )
+
+pub own_attributes-loop-i-preserved : goal.own_attributes-loop-i-preserved
+own_attributes-loop-i-preserved t c =
+    let at = read c.args.steps.now c.loop-i.i c.index-steps-i.result c.loop-i-test.true c.index-steps-i.is in
+    λ k reached lt own. elim (below-more k c.loop-i.i lt) [
+      | inl same ↦ (elim c.else-has.branch [
+        | own_attributes-else-has-via-then-has+else-own_attribute w ↦
+            contra _ ((w.own_attribute.ensures (after (suc c.loop-i.i) (steps_of c.args.steps.now))).1
+            (subst (λ s. OwnAttribute s c.args.root.now c.args.at.now c.args.wanted.now) (ap (λ n. after n (steps_of c.args.steps.now)) same ∙ after-at c.args.steps.now c.loop-i.i c.index-steps-i.result at) own)) w.if-own_attribute.false
+        | own_attributes-else-has-via-else-has w ↦ contra _ (c.has.ensures.1 (subst (Has c.args.reached.now) same reached)) w.if-has.false
+      ])
+      | inr less ↦ c.loop-i.invariant k reached less own
+    ]
+
+pub search-has-requires : goal.search-has-requires
+search-has-requires t c = omega (arith, fewer c.args.steps.now, c.requires.small)
+
+pub search-returns-then-suits : goal.search-returns-then-suits
+search-returns-then-suits t c = ((λ _. search-here c.args.steps.now (Has c.args.reached.now) c.args.root.now c.args.at.now c.args.wanted.now (c.has.ensures.0 c.if-has.true) (c.suits.ensures.0 c.if-suits.true)), (λ _. refl))
+
+pub search-own_attributes-requires : goal.search-own_attributes-requires
+search-own_attributes-requires t c = (
+  omega (arith, c.decreases, falls-size (size_of_wanted c.args.wanted.now) (size_of_steps (steps_of c.args.steps.now) + size_of_wanted c.args.wanted.now) 2 (depth c.args.at.now + 1) c.args.root.now (omega (arith, positive (steps_of c.args.steps.now))) (omega (arith, some_depth c.args.root.now))),
+  (c.requires.shallow, (c.requires.small, (c.requires.few, c.requires.nests))),
+)
+
+pub search-returns-then-own_attributes : goal.search-returns-then-own_attributes
+search-returns-then-own_attributes t c = ((λ _. search-own c.args.steps.now (Has c.args.reached.now) c.args.root.now c.args.at.now c.args.wanted.now (c.own_attributes.ensures.0 c.if-own_attributes.true)), (λ _. refl))
+
+pub search-loop-child-init : goal.search-loop-child-init
+search-loop-child-init t c =
+    λ found. elim (search-in c.args.steps.now (Has c.args.reached.now) c.args.root.now c.args.at.now c.args.wanted.now found) [
+      | inl here ↦ absurd (elim c.else-has.branch [
+        | search-else-has-via-then-has+else-suits w ↦ contra _ (w.suits.ensures.1 here.1) w.if-suits.false
+        | search-else-has-via-else-has w ↦ contra _ (c.has.ensures.1 here.0) w.if-has.false
+      ])
+      | inr rest ↦ (elim rest [
+        | inl own ↦ absurd (contra _ (c.own_attributes.ensures.1 own) c.if-own_attributes.false)
+        | inr below ↦ subst (λ ns. OneOf (λ x. SearchFinds c.args.steps.now (Next c.args.steps.now (Has c.args.reached.now) c.args.root.now x) c.args.root.now x c.args.wanted.now) (elements_in ns)) (sym c.as_slice-child-items.ensures) below
+      ])
+    ]
+
+pub search-advance-next-requires : goal.search-advance-next-requires
+search-advance-next-requires t c =
+    let at = read c.as_slice-child-items.result.now c.loop-child.child-index c.child-item.result c.loop-child-test.true c.child-item.is ∙ ap Some c.in-Element.is in
+    let deeper = child_depth c.args.at.now c.in-Element.inner c.loop-child.child-index (subst (λ ns. slice_get ns c.loop-child.child-index ≡ Some (tree.Element c.in-Element.inner)) c.as_slice-child-items.ensures at) in
+    let small = c.requires.inside in (
+      omega (arith, c.decreases, falls-within (size_of_steps (steps_of c.args.steps.now)) (size_of_steps (steps_of c.args.steps.now) + size_of_wanted c.args.wanted.now) 0 (depth c.args.at.now + 1) c.args.root.now (omega arith) (omega arith)),
+      (c.requires.shallow, (omega (arith, deeper, small), c.requires.small)),
+    )
+
+pub search-search-requires : goal.search-search-requires
+search-search-requires t c =
+    let at = read c.as_slice-child-items.result.now c.loop-child.child-index c.child-item.result c.loop-child-test.true c.child-item.is ∙ ap Some c.in-Element.is in
+    let deeper = child_depth c.args.at.now c.in-Element.inner c.loop-child.child-index (subst (λ ns. slice_get ns c.loop-child.child-index ≡ Some (tree.Element c.in-Element.inner)) c.as_slice-child-items.ensures at) in
+    let small = c.requires.inside in (
+      omega (arith, c.decreases, falls-within (size_of_steps (steps_of c.args.steps.now) + size_of_wanted c.args.wanted.now) (size_of_steps (steps_of c.args.steps.now) + size_of_wanted c.args.wanted.now) (depth c.in-Element.inner + 1) (depth c.args.at.now + 1) c.args.root.now (omega arith) (omega (arith, deeper))),
+      (c.requires.shallow, (omega (arith, deeper, small), (c.requires.small, (c.requires.few, c.requires.nests)))),
+    )
+
+pub search-returns-then-search : goal.search-returns-then-search
+search-returns-then-search t c =
+    let at = read c.as_slice-child-items.result.now c.loop-child.child-index c.child-item.result c.loop-child-test.true c.child-item.is ∙ ap Some c.in-Element.is in
+    let found = search-same c.args.steps.now (Has c.advance-next.result) (Next c.args.steps.now (Has c.args.reached.now) c.args.root.now c.in-Element.inner) c.args.root.now c.in-Element.inner c.args.wanted.now (λ j. (c.advance-next.ensures j).0) (c.search.ensures.0 c.if-search.true) in (
+      (λ _. search-children c.args.steps.now (Has c.args.reached.now) c.args.root.now c.args.at.now c.args.wanted.now
+          (subst (λ ns. OneOf (λ x. SearchFinds c.args.steps.now (Next c.args.steps.now (Has c.args.reached.now) c.args.root.now x) c.args.root.now x c.args.wanted.now) (elements_in ns)) c.as_slice-child-items.ensures (element-one (λ x. SearchFinds c.args.steps.now (Next c.args.steps.now (Has c.args.reached.now) c.args.root.now x) c.args.root.now x c.args.wanted.now) _ c.loop-child.child-index c.in-Element.inner at found))),
+      (λ _. refl),
+    )
+
+pub search-loop-child-preserved : goal.search-loop-child-preserved
+search-loop-child-preserved t c =
+    let item = read c.as_slice-child-items.result.now c.loop-child.child-index c.child-item.result c.loop-child-test.true c.child-item.is in
+    λ found. elim c.match-child.branch [
+      | search-in-Element+else-search w ↦ element-next _ _ c.loop-child.child-index w.in-Element.inner (item ∙ ap Some w.in-Element.is)
+          (λ p. contra _ (w.search.ensures.1 (search-same c.args.steps.now (Next c.args.steps.now (Has c.args.reached.now) c.args.root.now w.in-Element.inner) (Has w.advance-next.result) c.args.root.now w.in-Element.inner c.args.wanted.now (λ j. (w.advance-next.ensures j).1) p)) w.if-search.false)
+          (c.loop-child.invariant found)
+      | search-in-Text w ↦ text-next _ _ c.loop-child.child-index _ (item ∙ ap Some w.in-Text.is) (c.loop-child.invariant found)
+    ]

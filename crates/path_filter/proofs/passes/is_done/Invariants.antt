@@ -1,0 +1,6 @@
+use Rattle.std.proofs.Common.{◌<◌, ℕ}
+use Rattle.path_filter.specs.Positions.{Has}
+use Rattle.path_filter.proofs.passes.is_done.Given as goal
+
+abbrev pub invariant-loop-i : goal.invariant-loop-i
+invariant-loop-i l = (k : ℕ) → k < l.i → Has l.asked k → Has l.found k

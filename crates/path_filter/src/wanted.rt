@@ -1,0 +1,21 @@
+//! What a search compares, and what it looks for.
+
+use filter_text::{Comparison, Operand};
+use voe_tree::Element;
+
+/// What stands at a place that a path names.
+#[derive(Clone, Copy)]
+pub enum Found<'a> {
+    Element(&'a Element),
+    Text(&'a str),
+}
+
+/// What a search for the strings of a path looks for.
+#[derive(Clone, Copy)]
+pub enum Wanted<'a> {
+    Anything,
+    /// A string that is so related to this one.
+    Related(Comparison, Found<'a>),
+    /// A string that is so related to one of the operand's, at this element.
+    RelatedToOne(Comparison, &'a Operand, &'a Element),
+}
