@@ -1,5 +1,5 @@
 -- What is asked stays asked.
-use Rattle.std.proofs.Common.{◌≡◌, ℕ, zero, suc, ◌≤◌, ◌<◌, List, [], ◌∷◌, Option, Some, ◌-◌, length, map, drop, take, get_or, refl, sym, ◌∙◌, ap, arith}
+use Rattle.std.proofs.Common.{◌≡◌, ℕ, suc, ◌≤◌, List, [], ◌∷◌, ◌-◌, length, drop, take, get_or, refl, sym, ◌∙◌, ap, arith}
 use Rattle.path_filter.specs.Plan.{Check, Checks, any_of, all_of, not_so, here, anywhere, other, no_more, more, CheckAsks, ChecksAsk, NextAsks, Asks, stage_checks}
 use Rattle.voe_tree.specs.declared.element.Element.{Element}
 use Rattle.path_filter.specs.declared.plan.Stage.{Stage}

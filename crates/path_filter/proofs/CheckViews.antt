@@ -1,5 +1,5 @@
 -- The data of a check, one level at a time.
-use Rattle.std.proofs.Common.{◌≡◌, refl, sym, ◌∙◌, ap, List, map}
+use Rattle.std.proofs.Common.{◌≡◌, sym, ◌∙◌, ap, List, map}
 use Rattle.path_filter.specs.Plan.{Check, any_of, all_of, checks_of, check_of, check_data}
 use Rattle.path_filter.specs.declared.plan.Check.{Check as CodeCheck}
 use Rattle.path_filter.specs.declared.plan.Check.TheOpen.{Check-F}

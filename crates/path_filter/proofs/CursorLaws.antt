@@ -1,8 +1,6 @@
 -- A cursor over the pieces of a string value, one step at a time.
-use Rattle.std.proofs.Common.{◌≡◌, ◌≢◌, ℕ, zero, suc, ◌+◌, ◌≤◌, ◌<◌, List, [], ◌∷◌, ◌++◌, map, Option, Some, None, length, get_or, set, max, refl, sym, ◌∙◌, ap, subst, arith, append_assoc}
-use Rattle.std.specs.List.{slice_get}
+use Rattle.std.proofs.Common.{◌≡◌, ℕ, zero, suc, ◌+◌, ◌≤◌, ◌<◌, List, [], ◌∷◌, ◌++◌, map, Some, None, length, get_or, set, refl, sym, ◌∙◌, ap, subst, arith, append_assoc}
 use denote.Ref.{Bor}
-use Rattle.voe_tree.specs.Contents.{string_of}
 use Rattle.voe_tree.specs.Shape.{depth, greatest, height}
 use Rattle.voe_tree.specs.declared.element.Element.{Element, fold_out-Element}
 use Rattle.voe_tree.specs.declared.element.Node.{Node}

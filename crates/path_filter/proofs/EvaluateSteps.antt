@@ -1,26 +1,26 @@
 -- The steps of an evaluation, over plain variables.
-use Rattle.std.proofs.Common.{Bool, true, false, ◌≡◌, ◌≢◌, ◌⊎◌, ◌↔◌, inl, inr, IsTrue, ℕ, zero, suc, ◌<◌, ◌≤◌, ◌+◌, List, [], ◌∷◌, ◌++◌, Option, Some, None, refl, sym, ◌∙◌, ap, subst, arith, length, map, drop, take, get_or}
+use Rattle.std.proofs.Common.{Bool, true, false, ◌≡◌, ◌⊎◌, ◌↔◌, inl, inr, IsTrue, ℕ, zero, suc, ◌<◌, ◌≤◌, ◌+◌, List, [], ◌∷◌, ◌++◌, Option, Some, None, refl, sym, ◌∙◌, ap, subst, arith, length, map, drop, take, get_or}
 use Rattle.std.specs.List.{slice_get}
 use Rattle.std.specs.Bool.{Decides}
 use Rattle.std.proofs.lemmas.Option.{slice_get_read}
 use Rattle.voe_tree.specs.declared.element.Element.{Element}
-use Rattle.voe_tree.specs.declared.element.Node.{Node, out-Node}
+use Rattle.voe_tree.specs.declared.element.Node.{Node}
 use Rattle.voe_tree.specs.declared.element.Node.TheVariants as tree
-use Rattle.filter_text.specs.Filter.{Path, path, Text, Axis, child, descendant, Part, element, attribute, Steps, arrived, step}
+use Rattle.filter_text.specs.Filter.{Text, Part, element, attribute, Steps, arrived, step}
 use Rattle.std.specs.List.{cons_option}
-use Rattle.voe_tree.specs.Contents.{element_in, elements_in, string_of}
+use Rattle.voe_tree.specs.Contents.{element_in, elements_in}
 use Rattle.path_filter.specs.Places.{document}
 use Rattle.path_filter.specs.Meaning.{MeetsName}
 use Rattle.filter_text.specs.View.{steps_of, front_of, axis_of, part_of, test_of, condition_of, conditions_of}
 use Rattle.filter_text.specs.Size.{size_of_steps, size_of_conditions, steps_in_steps}
-use Rattle.path_filter.specs.Search.{OneOf, PathFinds, after}
+use Rattle.path_filter.specs.Search.{OneOf, after}
 use Rattle.path_filter.specs.Wanted.{Suits}
-use Rattle.path_filter.specs.Evaluate.{Goes, Stays, FindsOwn, SearchFinds, OwnFinds, OwnAttribute, FindsWanted, PathFindsWanted, Next, NextBelow}
+use Rattle.path_filter.specs.Evaluate.{Goes, Stays, FindsOwn, SearchFinds, OwnAttribute, FindsWanted, Next, NextBelow}
 use Rattle.path_filter.specs.declared.wanted.Wanted.{Wanted}
 use Rattle.filter_text.specs.declared.filter.Step.{Step}
 use Rattle.path_filter.proofs.Views.{front-out}
 use Rattle.path_filter.proofs.SearchLaws.{one-at, one-found}
-use Rattle.path_filter.proofs.PositionLaws.{search-in, search-children, after-at, elements_in-element, elements_in-text}
+use Rattle.path_filter.proofs.PositionLaws.{search-in, search-children, elements_in-element, elements_in-text}
 
 pub read : {X : Type 0} (xs : List X) (i : ℕ) (x : X) → i < length xs → x ≡ get_or xs i x → slice_get xs i ≡ Some x
 read xs i x lt is = slice_get_read xs (length xs) i x refl lt is

@@ -1,7 +1,7 @@
 -- A plan that grows keeps what it means.
-use Rattle.std.proofs.Common.{◌≡◌, ◌<◌, ◌≤◌, ◌+◌, ◌⊎◌, ◌↔◌, inl, inr, ℕ, zero, suc, true, false, Option, None, ◌-◌, List, [], ◌∷◌, ◌++◌, Some, length, map, take, drop, get_or, refl, sym, ◌∙◌, ap, subst, arith, append_assoc}
+use Rattle.std.proofs.Common.{◌≡◌, ◌<◌, ◌≤◌, ◌+◌, ◌↔◌, inl, inr, ℕ, zero, suc, true, false, Option, None, ◌-◌, List, [], ◌∷◌, ◌++◌, Some, length, map, take, drop, get_or, refl, sym, ◌∙◌, ap, subst, arith, append_assoc}
 use Rattle.std.proofs.Math.Seq.{take-length}
-use Rattle.std.specs.Bool.{IsTrue, ◌==◌}
+use Rattle.std.specs.Bool.{◌==◌}
 use Rattle.std.specs.Option.{MatchOption}
 use Rattle.std.specs.List.{slice_get}
 use Rattle.voe_tree.specs.declared.element.Element.{Element}
@@ -12,16 +12,15 @@ use Rattle.filter_text.specs.View.{axis_of, comparison_of, condition_of, conditi
 use Rattle.filter_text.specs.declared.filter.Condition.{Condition as CodeCondition}
 use Rattle.filter_text.specs.declared.filter.Condition.TheVariants as conditions
 use Rattle.filter_text.specs.declared.filter.Comparison.{Comparison as CodeComparison}
-use Rattle.filter_text.specs.declared.filter.Comparison.TheVariants as comparisons
 use Rattle.filter_text.specs.declared.filter.Path.{Path as CodePath, out-Path}
 use Rattle.filter_text.specs.declared.filter.Step.{Step as CodeStep}
-use Rattle.path_filter.specs.Meaning.{MeetsName, Leads, Holder, Passes, Related}
+use Rattle.path_filter.specs.Meaning.{Passes, Related}
 use Rattle.path_filter.specs.Places.{document}
 use Rattle.path_filter.specs.Places as place
 use Rattle.path_filter.specs.Plan.{Check, Checks, here, anywhere, other, no_more, more, CheckHolds, EachHolds, OneHolds, GoesOn, Arrives, Owns, EndsAt, StageFinds, At, newest, stage_at, IsOfDocument, CheckRefers, ChecksRefer, NextRefers, StageRefers, IsMade, FindsSought, Suited, stage_checks, check_of, checks_of}
 use Rattle.path_filter.specs.Plan as plans
-use Rattle.path_filter.specs.Planned.{Grows, Means, AllMean, Seeks, Looks, Starts, IsLast, Follows, Stands, PlanPasses, LastOfDocument, IsPlanOf}
-use Rattle.path_filter.specs.Search.{Each, One, Is, OneOf, PathFinds, Finds}
+use Rattle.path_filter.specs.Planned.{Grows, Means, AllMean, Looks, Starts, IsLast, Follows, Stands, PlanPasses, LastOfDocument, IsPlanOf}
+use Rattle.path_filter.specs.Search.{Each, One}
 use Rattle.path_filter.specs.declared.plan.Check.{Check as CodeCheck}
 use Rattle.path_filter.specs.declared.plan.Check.TheVariants as checks
 use Rattle.path_filter.specs.declared.plan.Next.{Next}

@@ -1,5 +1,5 @@
 -- A position is in a set or not.
-use Rattle.std.proofs.Common.{◌≡◌, ◌≢◌, ◌⊎◌, inl, inr, ℕ, arith}
+use Rattle.std.proofs.Common.{◌≡◌, ◌⊎◌, ℕ, arith}
 use Rattle.path_filter.specs.Positions.{Has}
 use Rattle.path_filter.specs.declared.positions.Positions.{Positions}
 

@@ -1,5 +1,5 @@
 -- Going over positions, one at a time.
-use Rattle.std.proofs.Common.{◌≡◌, ◌≢◌, ◌<◌, ◌≤◌, ◌+◌, ◌⊎◌, ◌↔◌, inl, inr, ℕ, zero, suc, List, [], ◌∷◌, Some, length, refl, sym, ◌∙◌, subst, arith}
+use Rattle.std.proofs.Common.{◌≡◌, ◌<◌, ◌≤◌, ◌+◌, ◌⊎◌, ◌↔◌, inl, inr, ℕ, zero, suc, List, [], ◌∷◌, Some, length, sym, subst, arith}
 use Rattle.std.specs.List.{slice_get}
 use Rattle.path_filter.specs.Marks.{MarkedBelow}
 use Rattle.path_filter.specs.Plan.{StageIsSmall, StagesAreSmall}

@@ -1,14 +1,14 @@
 -- What a path finds from an element is what stands at the places that it names from the element's place.
-use Rattle.std.proofs.Common.{◌≡◌, ◌⊎◌, ◌↔◌, inl, inr, Bool, true, false, ℕ, zero, suc, List, [], ◌∷◌, ◌++◌, Option, Some, None, refl, sym, ◌∙◌, ap, subst}
+use Rattle.std.proofs.Common.{◌≡◌, inl, inr, true, false, ℕ, List, [], ◌∷◌, ◌++◌, Option, Some, None, refl, sym, ◌∙◌, ap, subst}
 use Rattle.std.specs.List.{slice_get}
 use Rattle.std.specs.Option.{option_and_then, option_map}
 use Rattle.voe_tree.specs.declared.element.Element.{Element}
-use Rattle.filter_text.specs.Filter.{Text, Axis, child, descendant, Part, element, attribute, Test, any, name, Comparison, equal, differs, Path, path, Steps, arrived, step, Condition, any_of, all_of, not_so, alone, compare, Conditions, no_more, more, Operand, found, literal, local_name}
+use Rattle.filter_text.specs.Filter.{Text, element, attribute, Path, path, Steps, arrived, step, Condition, any_of, all_of, not_so, alone, compare, Conditions, no_more, more, Operand, found, literal, local_name}
 use Rattle.voe_tree.specs.Contents.{elements_in, string_of}
 use Rattle.path_filter.specs.Places.{Place, document, element_below, element_at, attribute_at, string_value}
 use Rattle.path_filter.specs.Places as place
-use Rattle.path_filter.specs.Meaning.{MeetsName, Leads, Holder, Related, AtPath, At, AllHold, SomeHolds, Holds, Stands, IsString, Passes}
-use Rattle.path_filter.specs.Search.{OneOf, Finds, PathFinds, Each, One, Is, IsSo, Strings}
+use Rattle.path_filter.specs.Meaning.{AtPath, At, AllHold, SomeHolds, Holds, Stands, IsString, Passes}
+use Rattle.path_filter.specs.Search.{Finds, PathFinds, Each, One, Is, IsSo, Strings}
 use Rattle.path_filter.proofs.SearchLaws.{one-at, one-found}
 
 below-append : (x : Element) (p ks : List ℕ) → element_below x (p ++ ks) ≡ option_and_then (λ e. element_below e ks) (element_below x p)

@@ -1,12 +1,12 @@
 -- What the positions of a plan find, one stage at a time.
-use Rattle.std.proofs.Common.{◌≡◌, ◌≢◌, ◌<◌, ◌≤◌, ◌+◌, ◌⊎◌, ◌↔◌, inl, inr, ℕ, zero, suc, Bool, true, false, List, [], ◌∷◌, ◌++◌, Option, Some, None, length, map, refl, sym, ◌∙◌, ap, subst, arith, eqb-true, eq-eqb, if◌then◌else◌}
+use Rattle.std.proofs.Common.{◌≡◌, ◌<◌, ◌+◌, ◌⊎◌, ◌↔◌, inl, inr, ℕ, zero, suc, Bool, true, false, List, [], ◌∷◌, ◌++◌, Some, length, refl, sym, ◌∙◌, ap, subst, arith, eqb-true, eq-eqb, if◌then◌else◌}
 use Rattle.std.specs.Bool.{MatchBool, ◌==◌}
 use Rattle.std.specs.List.{slice_get}
-use Rattle.voe_tree.specs.Contents.{elements_in, string_of}
+use Rattle.voe_tree.specs.Contents.{elements_in}
 use Rattle.voe_tree.specs.declared.element.Element.{Element}
-use Rattle.filter_text.specs.Filter.{Axis, child, descendant, Part, element}
+use Rattle.filter_text.specs.Filter.{Axis, child, descendant, element}
 use Rattle.filter_text.specs.View.{axis_of, part_of, test_of}
-use Rattle.path_filter.specs.Meaning.{Holder, Leads, MeetsName}
+use Rattle.path_filter.specs.Meaning.{MeetsName}
 use Rattle.path_filter.specs.Places.{document, element_below}
 use Rattle.path_filter.specs.Plan.{Check, Checks, any_of, all_of, not_so, here, anywhere, other, no_more, more, CheckHolds, EachHolds, OneHolds, GoesOn, Arrives, Owns, Walks, Holds, StageFinds, At, newest, newest_onto, stage_at, IsOfDocument, CheckRefers, ChecksRefer, NextRefers, StageRefers, IsMade, FromChild, stage_checks, CheckAsks, ChecksAsk, NextAsks, Asks, Knows}
 use Rattle.path_filter.specs.Search.{OneOf}

@@ -1,20 +1,19 @@
 -- Searches from positions in the steps of a path.
-use Rattle.std.proofs.Common.{◌≡◌, ◌⊎◌, inl, inr, ℕ, zero, suc, ◌<◌, ◌≤◌, ◌+◌, List, [], ◌∷◌, ◌++◌, Option, Some, None, refl, sym, ◌∙◌, ap, subst, arith, length, map, drop}
+use Rattle.std.proofs.Common.{◌≡◌, ◌⊎◌, inl, inr, ℕ, zero, suc, ◌<◌, ◌≤◌, List, [], ◌∷◌, Some, None, refl, sym, ◌∙◌, ap, subst, arith, length}
 use Rattle.std.specs.List.{slice_get}
 use Rattle.voe_tree.specs.declared.element.Element.{Element}
 use Rattle.voe_tree.specs.declared.element.Node.{Node, out-Node}
 use Rattle.voe_tree.specs.declared.element.Node.TheViews.{out-roll-Node}
 use Rattle.voe_tree.specs.declared.element.Node.TheOpen.{Node-F}
 use Rattle.voe_tree.specs.declared.element.Node.TheVariants as tree
-use Rattle.filter_text.specs.Filter.{Text, Axis, child, descendant, Part, element, attribute, Steps, arrived, step, Path}
+use Rattle.filter_text.specs.Filter.{Text, Steps, arrived, step}
 use Rattle.std.specs.List.{cons_option}
 use Rattle.voe_tree.specs.Contents.{element_in, elements_in, layer_element, string_of}
 use Rattle.filter_text.specs.Size.{steps_in_steps}
-use Rattle.path_filter.specs.Places.{element_below, document}
-use Rattle.filter_text.specs.View.{steps_of, front_of, axis_of, part_of, test_of, condition_of, conditions_of}
-use Rattle.path_filter.specs.Search.{OneOf, Finds, Each, after}
+use Rattle.filter_text.specs.View.{steps_of, front_of}
+use Rattle.path_filter.specs.Search.{OneOf, Finds, after}
 use Rattle.path_filter.specs.Wanted.{Suits}
-use Rattle.path_filter.specs.Evaluate.{Goes, Stays, FindsOwn, SearchFinds, OwnFinds, OwnAttribute, Next}
+use Rattle.path_filter.specs.Evaluate.{SearchFinds, OwnFinds, Next}
 use Rattle.path_filter.specs.declared.wanted.Wanted.{Wanted}
 use Rattle.filter_text.specs.declared.filter.Step.{Step}
 use Rattle.path_filter.proofs.Views.{front-out}

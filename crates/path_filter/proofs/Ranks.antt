@@ -1,9 +1,9 @@
 -- The measure of a search: the size of the filter's part first, and then the depth of the tree.
-use Rattle.std.proofs.Common.{◌≡◌, ◌⊎◌, ℕ, zero, suc, ◌<◌, ◌≤◌, ◌+◌, ◌*◌, max, List, [], ◌∷◌, Some, refl, sym, ◌∙◌, ap, subst, arith, map}
+use Rattle.std.proofs.Common.{◌≡◌, ℕ, zero, suc, ◌<◌, ◌≤◌, ◌+◌, ◌*◌, List, [], ◌∷◌, Some, sym, ◌∙◌, ap, arith, map}
 use Rattle.std.specs.List.{slice_get}
 use Rattle.std.proofs.lemmas.Nat.{mul-le}
 use Rattle.voe_tree.specs.declared.element.Element.{Element, fold_out-Element}
-use Rattle.voe_tree.specs.declared.element.Node.{Node, fold-Node}
+use Rattle.voe_tree.specs.declared.element.Node.{Node}
 use Rattle.voe_tree.specs.declared.element.Node.TheOpen.{Node-F}
 use Rattle.voe_tree.specs.declared.element.Node.TheFolds.{fold-roll-Node}
 use Rattle.voe_tree.specs.declared.element.Node.TheVariants as tree

@@ -1,12 +1,11 @@
 -- What a search finds from an element: at the element itself, or below one of its children.
-use Rattle.std.proofs.Common.{◌≡◌, ◌⊎◌, inl, inr, ℕ, zero, suc, ◌<◌, ◌≤◌, ◌+◌, List, [], ◌∷◌, ◌++◌, Option, Some, None, refl, sym, ◌∙◌, ap, subst, arith, length, map}
+use Rattle.std.proofs.Common.{◌≡◌, ◌⊎◌, inl, inr, ℕ, zero, suc, List, [], ◌∷◌, Some, refl, sym, ◌∙◌, ap, subst}
 use Rattle.std.specs.List.{slice_get}
 use Rattle.std.specs.Option.{option_and_then}
 use Rattle.std.proofs.lemmas.Option.{option_and_then_some}
-use Rattle.voe_tree.specs.declared.element.Attribute.{Attribute}
 use Rattle.voe_tree.specs.declared.element.Element.{Element}
-use Rattle.filter_text.specs.Filter.{Text, Axis, child, descendant, Part, element, attribute, Steps, arrived, step, Path}
-use Rattle.voe_tree.specs.Contents.{elements_in, string_of}
+use Rattle.filter_text.specs.Filter.{Text, child, descendant, element, attribute, Steps, arrived, step}
+use Rattle.voe_tree.specs.Contents.{elements_in}
 use Rattle.path_filter.specs.Places.{element_below}
 use Rattle.path_filter.specs.Meaning.{MeetsName}
 use Rattle.path_filter.specs.Search.{OneOf, Finds, Each, after}

@@ -1,5 +1,5 @@
 -- Sets of filters from lists of texts, one more text at a time.
-use Rattle.std.proofs.Common.{◌≡◌, List, [], ◌∷◌, ◌++◌, Option, Some, None, refl, sym, ◌∙◌, subst, ap, inl, inr}
+use Rattle.std.proofs.Common.{◌≡◌, List, [], ◌∷◌, ◌++◌, Option, Some, None, refl, ◌∙◌, subst, ap, inl, inr}
 use Rattle.xml_lexer.specs.Characters.{Text}
 use Rattle.filter_text.specs.View.{path_of}
 use Rattle.filter_text.specs.Reading.{Reads}
@@ -7,7 +7,7 @@ use Rattle.filter_text.specs.declared.filter.Path.{Path}
 use Rattle.voe_tree.specs.declared.element.Element.{Element}
 use Rattle.filter_text.specs.Filter as filter
 use Rattle.path_filter.specs.Meaning.{Passes}
-use Rattle.path_filter.specs.Sets.{AreRead, AreReadLeniently, Filters, IsRefused, OnePasses, SetPasses, data_of}
+use Rattle.path_filter.specs.Sets.{AreRead, AreReadLeniently, Filters, OnePasses, SetPasses, data_of}
 
 pub one_more : (fs : Filters) (texts : List Text) (f : Path) (s : Text) → AreRead fs texts → Reads (path_of f) s → AreRead (fs ++ Some f ∷ []) (texts ++ s ∷ [])
 one_more [] [] f s before reads = (reads, tt)

@@ -1,8 +1,8 @@
 -- The string values of elements_in.
-use Rattle.std.proofs.Common.{◌≡◌, ◌↔◌, ℕ, suc, List, [], ◌∷◌, ◌++◌, map, drop, refl, sym, ◌∙◌, ap, append_assoc, Some, length, ◌+◌, ◌≤◌}
+use Rattle.std.proofs.Common.{◌≡◌, ◌↔◌, ℕ, List, [], ◌∷◌, ◌++◌, map, drop, sym, ◌∙◌, ap, append_assoc, Some, length, ◌+◌, ◌≤◌}
 use Rattle.std.specs.List.{slice_get}
 use Rattle.voe_tree.specs.declared.element.Element.{Element, fold_out-Element}
-use Rattle.voe_tree.specs.declared.element.Node.{Node, fold-Node}
+use Rattle.voe_tree.specs.declared.element.Node.{Node}
 use Rattle.voe_tree.specs.declared.element.Node.TheOpen.{Node-F}
 use Rattle.voe_tree.specs.declared.element.Node.TheFolds.{fold-roll-Node}
 use Rattle.voe_tree.specs.declared.element.Node.TheVariants as tree

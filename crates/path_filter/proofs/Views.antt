@@ -1,6 +1,6 @@
 -- The data of a filter, one level at a time.
-use Rattle.std.proofs.Common.{◌≡◌, refl, sym, ◌∙◌, ap, List, map}
-use Rattle.filter_text.specs.Filter.{Path, path, Steps, step, Condition, any_of, all_of, not_so, alone, compare, Operand, found, literal, local_name}
+use Rattle.std.proofs.Common.{◌≡◌, sym, ◌∙◌, ap, List, map}
+use Rattle.filter_text.specs.Filter.{Path, path, step, Condition, any_of, all_of, not_so, alone, compare, Operand, found}
 use Rattle.filter_text.specs.View.{Front, condition_of, conditions_of, operand_of, path_of, front_of, steps_of, axis_of, part_of, test_of, comparison_of, condition_data, operand_data, path_data, step_data}
 use Rattle.filter_text.specs.declared.filter.Path.{Path as CodePath, out-Path, fold_out-Path}
 use Rattle.filter_text.specs.declared.filter.Step.{Step as CodeStep, fold_out-Step}

@@ -1,10 +1,9 @@
 -- What is left of an element's string value behind a cursor.
-use Rattle.std.specs.Prelude.{◌≡◌, ℕ, zero, suc, ◌+◌, ◌≤◌, List, [], ◌∷◌, ◌++◌, map, Option, Some, None, slice_get, length}
+use Rattle.std.specs.Prelude.{◌≡◌, ℕ, zero, suc, ◌+◌, ◌≤◌, List, [], ◌∷◌, ◌++◌, map, Some, None, slice_get, length}
 use denote.Ref.{Bor}
 use Rattle.std.specs.List.{concat}
 use Rattle.voe_tree.specs.Contents.{string_in}
 use Rattle.voe_tree.specs.Shape.{greatest, height}
-use Rattle.voe_tree.specs.declared.element.Element.{fold-Element}
 use Rattle.voe_tree.specs.declared.element.Node.{Node, fold-Node}
 use Rattle.voe_tree.specs.declared.element.Node.TheOpen.{Node-F, Element-F}
 use Rattle.filter_text.specs.Filter.{Text}

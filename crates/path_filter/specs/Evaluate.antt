@@ -1,7 +1,7 @@
 -- What the parts of a search give.
-use Rattle.std.specs.Prelude.{◌≡◌, ◌≢◌, ℕ, zero, suc, ◌+◌, ◌<◌, ◌≤◌, ◌⊎◌, List, length, [], ◌∷◌}
+use Rattle.std.specs.Prelude.{◌≡◌, ℕ, suc, ◌<◌, ◌≤◌, ◌⊎◌, List, length}
 use Rattle.voe_tree.specs.declared.element.Element.{Element}
-use Rattle.filter_text.specs.Filter.{Text, Axis, child, descendant, Part, element, attribute, Steps, arrived, step, Path}
+use Rattle.filter_text.specs.Filter.{Text, descendant, element, attribute, Steps, step, Path}
 use Rattle.path_filter.specs.Meaning.{MeetsName, Related}
 use Rattle.path_filter.specs.Search.{OneOf, Finds, PathFinds, Each, after, Strings}
 use Rattle.filter_text.specs.View.{steps_of}

@@ -1,5 +1,5 @@
 -- Places of a document, and what stands there.
-use Rattle.std.specs.Prelude.{◌≡◌, ℕ, List, [], ◌∷◌, ◌++◌, slice_get, Option, Some, None, option_map, option_and_then}
+use Rattle.std.specs.Prelude.{ℕ, List, [], ◌∷◌, slice_get, Option, Some, option_map, option_and_then}
 use Rattle.voe_tree.specs.Contents.{elements_in, string_of}
 use Rattle.voe_tree.specs.declared.element.Attribute.{Attribute}
 use Rattle.voe_tree.specs.declared.element.Element.{Element}

@@ -1,9 +1,9 @@
 -- What the positions of a plan find.
-use Rattle.std.specs.Prelude.{◌≡◌, ℕ, zero, suc, ◌+◌, ◌<◌, ◌≤◌, ◌⊎◌, ◌==◌, Bool, true, false, if◌then◌else◌, List, [], ◌∷◌, ◌++◌, Option, Some, None, map, length}
+use Rattle.std.specs.Prelude.{◌≡◌, ℕ, suc, ◌+◌, ◌<◌, ◌≤◌, ◌⊎◌, ◌==◌, true, if◌then◌else◌, List, [], ◌∷◌, Option, Some, None, map, length}
 use Rattle.std.specs.Bool.{MatchBool}
-use Rattle.voe_tree.specs.Contents.{elements_in, string_of}
+use Rattle.voe_tree.specs.Contents.{string_of}
 use Rattle.voe_tree.specs.declared.element.Element.{Element}
-use Rattle.filter_text.specs.Filter.{Text, Axis, descendant, Part, element, attribute, Steps, Condition, Comparison}
+use Rattle.filter_text.specs.Filter.{Text, Axis, descendant, element, attribute, Steps, Condition}
 use Rattle.filter_text.specs.Size.{steps_in_condition}
 use Rattle.filter_text.specs.View.{axis_of, comparison_of, condition_of, part_of, test_of}
 use Rattle.path_filter.specs.Places.{document, element_below}

@@ -1,6 +1,5 @@
 -- Which plans stand for which paths. The stages stand the last one first.
-use Rattle.std.specs.Prelude.{◌≡◌, ◌↔◌, ℕ, suc, ◌+◌, ◌-◌, ◌<◌, ◌≤◌, IsTrue, List, [], ◌∷◌, ◌++◌, Option, Some, None, length}
-use Rattle.voe_tree.specs.Contents.{string_of}
+use Rattle.std.specs.Prelude.{◌≡◌, ◌↔◌, ℕ, suc, ◌+◌, ◌<◌, ◌≤◌, IsTrue, List, [], ◌∷◌, ◌++◌, length}
 use Rattle.voe_tree.specs.declared.element.Element.{Element}
 use Rattle.filter_text.specs.Filter.{Text, Path, Steps, arrived, Part, element, attribute, Condition, Conditions}
 use Rattle.filter_text.specs.Filter as filter
@@ -8,7 +7,7 @@ use Rattle.filter_text.specs.View.{steps_of}
 use Rattle.filter_text.specs.declared.filter.Path.{Path as CodePath, out-Path}
 use Rattle.path_filter.specs.Meaning.{Passes}
 use Rattle.path_filter.specs.Places.{document}
-use Rattle.path_filter.specs.Plan.{Check, Checks, no_more, more, CheckHolds, CheckRefers, StageFinds, StageRefers, NextRefers, GoesOn, EndsAt, Suited, FindsSought, At, IsMade, IsOfDocument, newest}
+use Rattle.path_filter.specs.Plan.{Check, Checks, no_more, more, CheckHolds, CheckRefers, StageFinds, StageRefers, NextRefers, GoesOn, EndsAt, Suited, FindsSought, At, IsMade, IsOfDocument}
 use Rattle.path_filter.specs.Search.{Is, PathFinds}
 use Rattle.path_filter.specs.declared.plan.Sought.{Sought}
 use Rattle.path_filter.specs.declared.plan.Next.{Next}

@@ -1,11 +1,8 @@
 -- What a search for a path's strings looks for, from element to element.
-use Rattle.std.specs.Prelude.{◌≡◌, ◌≢◌, ℕ, zero, suc, ◌+◌, ◌*◌, ◌<◌, ◌≤◌, ◌⊎◌, Bool, true, false, List, [], ◌∷◌, ◌++◌, Option, Some, None, map, max, Any, length, slice_get}
-use Rattle.voe_tree.specs.declared.element.Attribute.{Attribute}
-use Rattle.voe_tree.specs.declared.element.Element.{Element, fold-Element}
-use Rattle.voe_tree.specs.declared.element.Node.{Node}
-use Rattle.voe_tree.specs.declared.element.Node.TheOpen.{Node-F, Element-F}
-use Rattle.filter_text.specs.Filter.{Text, Axis, child, descendant, Part, element, attribute, Test, any, name, Comparison, equal, differs, Path, path, Steps, arrived, step, Condition, any_of, all_of, not_so, alone, compare, Conditions, no_more, more, Operand, found, literal, local_name}
-use Rattle.voe_tree.specs.Contents.{elements_in, string_of}
+use Rattle.std.specs.Prelude.{◌≡◌, ◌≢◌, ℕ, zero, suc, ◌+◌, ◌*◌, ◌⊎◌, true, false, List, [], ◌∷◌, Some}
+use Rattle.voe_tree.specs.declared.element.Element.{Element}
+use Rattle.filter_text.specs.Filter.{Text, element, attribute, Path, path, Steps, arrived, step, Condition, any_of, all_of, not_so, alone, compare, Conditions, no_more, more, Operand, found, literal, local_name}
+use Rattle.voe_tree.specs.Contents.{string_of}
 use Rattle.voe_tree.specs.Shape.{depth}
 use Rattle.path_filter.specs.Places.{document, element_below}
 use Rattle.path_filter.specs.Meaning.{MeetsName, Leads, Holder, Related}

@@ -1,7 +1,7 @@
 -- What a search looks for.
-use Rattle.std.specs.Prelude.{◌≡◌, ℕ, zero, ◌+◌, ◌≤◌, List, length, Some}
+use Rattle.std.specs.Prelude.{ℕ, ◌+◌, ◌≤◌}
 use Rattle.voe_tree.specs.declared.element.Element.{Element}
-use Rattle.filter_text.specs.Filter.{Text, Steps}
+use Rattle.filter_text.specs.Filter.{Text}
 use Rattle.voe_tree.specs.Contents.{string_of}
 use Rattle.voe_tree.specs.Shape.{depth}
 use Rattle.filter_text.specs.Size.{size_of_operand, steps_in_operand}

@@ -1,13 +1,13 @@
-use Rattle.std.proofs.Common.{◌≡◌, ◌↔◌, Some, true, ◌⊎◌, inl, inr, ◌≤◌, ◌<◌, ◌+◌, ℕ, suc, IsTrue, length, map, arith, refl, sym, ◌∙◌, ap, subst}
+use Rattle.std.proofs.Common.{◌≡◌, ◌↔◌, Some, true, ◌⊎◌, inl, inr, ◌+◌, ℕ, suc, length, arith, refl, sym, ◌∙◌, ap, subst}
 use Rattle.std.specs.List.{slice_get}
-use Rattle.voe_tree.specs.Contents.{elements_in, string_of}
+use Rattle.voe_tree.specs.Contents.{elements_in}
 use Rattle.voe_tree.specs.Shape.{depth}
-use Rattle.filter_text.specs.Size.{size_of_steps, size_of_conditions, steps_in_steps}
+use Rattle.filter_text.specs.Size.{size_of_steps}
 use Rattle.path_filter.specs.Search.{OneOf, after}
 use Rattle.path_filter.specs.Positions.{Has}
-use Rattle.filter_text.specs.View.{condition_of, conditions_of, front_of, steps_of, path_of, test_of}
+use Rattle.filter_text.specs.View.{steps_of, path_of, test_of}
 use Rattle.path_filter.specs.Wanted.{Suits, size_of_wanted}
-use Rattle.path_filter.specs.Evaluate.{Goes, Stays, SearchFinds, OwnFinds, OwnAttribute, PathFindsWanted, Next, NextBelow}
+use Rattle.path_filter.specs.Evaluate.{Goes, Stays, SearchFinds, OwnAttribute, PathFindsWanted, Next, NextBelow}
 use Rattle.path_filter.proofs.PositionLaws.{fewer, after-at, search-in, search-here, search-own, search-children}
 use Rattle.path_filter.proofs.Ranks.{falls-size, falls-within, child_depth, some_depth}
 use Rattle.path_filter.proofs.EvaluateSteps.{read, one-next, one-past, element-next, text-next, element-one, search-same, Attributes, own-in, own-out, step-sizes, positive, added, not_added, advanced, skipped, contra, meets-as, below-more, document-in, document-out}

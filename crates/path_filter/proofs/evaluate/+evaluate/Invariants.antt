@@ -1,4 +1,4 @@
-use Rattle.std.proofs.Common.{◌≡◌, ◌↔◌, ◌≤◌, ◌<◌, ℕ, length, map, drop, ◌+◌}
+use Rattle.std.proofs.Common.{◌↔◌, ◌<◌, ℕ, map, drop, ◌+◌}
 use Rattle.filter_text.specs.Filter.{Steps}
 use Rattle.voe_tree.specs.Contents.{elements_in}
 use Rattle.voe_tree.specs.Shape.{depth}

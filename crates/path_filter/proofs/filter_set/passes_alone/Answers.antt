@@ -1,4 +1,4 @@
-use Rattle.std.proofs.Common.{◌≡◌, ◌↔◌, Some, false, sym, subst}
+use Rattle.std.proofs.Common.{◌≡◌, ◌↔◌, false, sym, subst}
 use Rattle.std.specs.Bool.{IsTrue}
 use Rattle.std.specs.Option.{MatchOption}
 use Rattle.filter_text.specs.View.{path_of}

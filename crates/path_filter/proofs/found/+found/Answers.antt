@@ -1,12 +1,10 @@
-use Rattle.std.proofs.Common.{◌≡◌, ◌∙◌, ◌⊎◌, inl, inr, ◌+◌, ◌*◌, ◌<◌, ◌≤◌, ◌↔◌, ℕ, Some, length, drop, arith, sym, ap, subst}
+use Rattle.std.proofs.Common.{◌≡◌, ◌∙◌, inl, inr, Some, arith, sym, ap, subst}
 use Rattle.std.specs.List.{slice_get}
 use Rattle.voe_tree.specs.Contents.{elements_in}
-use Rattle.voe_tree.specs.Shape.{depth}
 use Rattle.voe_tree.specs.declared.element.Node.TheVariants as tree
-use Rattle.path_filter.specs.Plan.{At, newest}
+use Rattle.path_filter.specs.Plan.{newest}
 use Rattle.path_filter.specs.Positions.{Has}
 use Rattle.path_filter.specs.Search.{OneOf}
-use Rattle.path_filter.specs.declared.plan.Stage.{Stage}
 use Rattle.path_filter.proofs.EvaluateSteps.{read, element-one, element-split, text-next}
 use Rattle.path_filter.proofs.HasLaws.{has_or_not}
 use Rattle.path_filter.proofs.MarkLaws.{within}

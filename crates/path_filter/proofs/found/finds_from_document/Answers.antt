@@ -1,8 +1,8 @@
-use Rattle.std.proofs.Common.{◌≡◌, ◌∙◌, ◌⊎◌, inl, inr, [], ◌∷◌, ◌<◌, Some, length, refl, sym, subst, arith}
+use Rattle.std.proofs.Common.{◌≡◌, inl, inr, [], ◌∷◌, refl, sym, subst}
 use Rattle.voe_tree.specs.Contents.{elements_in}
 use Rattle.voe_tree.specs.declared.element.Element.{Element}
 use Rattle.path_filter.specs.Places.{document}
-use Rattle.path_filter.specs.Plan.{At, Owns, newest}
+use Rattle.path_filter.specs.Plan.{Owns, newest}
 use Rattle.path_filter.specs.Search.{OneOf}
 use Rattle.path_filter.specs.declared.plan.Stage.{Stage}
 use Rattle.path_filter.proofs.PlanLaws.{FromChildAt, before, found_in, found_child, get, stage_get}

@@ -1,4 +1,4 @@
-use Rattle.std.proofs.Common.{◌≡◌, ◌+◌, ◌<◌, ◌≤◌, length, arith}
+use Rattle.std.proofs.Common.{◌+◌, arith}
 use Rattle.path_filter.specs.Positions.{Has}
 use Rattle.path_filter.proofs.EvaluateSteps.{read}
 use Rattle.path_filter.proofs.PrefixLaws.{made_front, small_front, knows_front, one_known, all_known}

@@ -1,13 +1,11 @@
-use Rattle.std.proofs.Common.{◌≡◌, ◌∙◌, ◌+◌, ◌-◌, ◌*◌, ◌<◌, ◌≤◌, ◌∷◌, ◌++◌, [], true, false, List, length, map, take, drop, sym, refl, subst, ap, arith}
-use Rattle.std.specs.Bool.{IsTrue}
+use Rattle.std.proofs.Common.{◌≡◌, ◌∙◌, ◌+◌, ◌-◌, ◌∷◌, ◌++◌, [], false, length, map, take, drop, sym, subst, ap, arith}
 use Rattle.std.specs.Option.{MatchOption}
-use Rattle.filter_text.specs.Filter.{Steps, arrived, step, Part, element, attribute}
+use Rattle.filter_text.specs.Filter.{arrived, step, element, attribute}
 use Rattle.filter_text.specs.Size.{steps_in_condition, steps_in_conditions, steps_in_path, steps_in_steps}
-use Rattle.filter_text.specs.View.{axis_of, condition_of, conditions_of, part_of, path_of, steps_of, test_of}
+use Rattle.filter_text.specs.View.{axis_of, condition_of, conditions_of, part_of, steps_of, test_of}
 use Rattle.filter_text.specs.declared.filter.Path.{out-Path}
-use Rattle.filter_text.specs.declared.filter.Part.TheVariants as parts
 use Rattle.path_filter.specs.Plan.{check_of, checks_of, newest}
-use Rattle.path_filter.specs.Planned.{AllMean, Follows, Grows, IsLast, Means, Stands, Starts}
+use Rattle.path_filter.specs.Planned.{AllMean, Grows, IsLast, Means, Stands, Starts}
 use Rattle.path_filter.specs.declared.plan.Check.TheVariants as checks
 use Rattle.path_filter.specs.declared.plan.Stage.{Stage}
 use Rattle.path_filter.proofs.EvaluateSteps.{read, to-place}

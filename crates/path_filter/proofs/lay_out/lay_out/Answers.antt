@@ -1,4 +1,4 @@
-use Rattle.std.proofs.Common.{◌≡◌, ap}
+use Rattle.std.proofs.Common.{ap}
 use Rattle.path_filter.specs.Plan.{newest}
 use Rattle.path_filter.proofs.GrowLaws.{plan_or_none}
 use Rattle.path_filter.proofs.lay_out.lay_out.Goals as goal

@@ -1,4 +1,4 @@
-use Rattle.std.proofs.Common.{◌≡◌, ◌∙◌, ap}
+use Rattle.std.proofs.Common.{◌∙◌, ap}
 use Rattle.path_filter.specs.Plan.{newest}
 use Rattle.path_filter.proofs.GrowLaws.{newest_push}
 use Rattle.path_filter.proofs.lay_out.push.Goals as goal

@@ -1,4 +1,4 @@
-use Rattle.std.proofs.Common.{◌≡◌, ◌+◌, ◌<◌, ◌≤◌, ℕ, length, arith}
+use Rattle.std.proofs.Common.{arith}
 use Rattle.path_filter.specs.Plan.{FromChild}
 use Rattle.path_filter.specs.Positions.{Has}
 use Rattle.path_filter.proofs.EvaluateSteps.{read}

@@ -1,8 +1,7 @@
-use Rattle.std.proofs.Common.{◌≡◌, ◌+◌, ◌<◌, inl, inr, ℕ, Some, length, sym, subst, arith}
+use Rattle.std.proofs.Common.{◌≡◌, inl, inr, Some, sym, subst, arith}
 use Rattle.std.specs.List.{slice_get}
 use Rattle.path_filter.specs.Plan.{Asks}
 use Rattle.path_filter.specs.Positions.{Has}
-use Rattle.path_filter.specs.declared.plan.Stage.{Stage}
 use Rattle.path_filter.proofs.AskLaws.{asks-more}
 use Rattle.path_filter.proofs.EvaluateSteps.{below-more, read}
 use Rattle.path_filter.proofs.MarkLaws.{small_at, within}

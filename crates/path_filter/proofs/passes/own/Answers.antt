@@ -1,7 +1,6 @@
-use Rattle.std.proofs.Common.{◌≡◌, ◌+◌, ◌<◌, ◌≤◌, inl, inr, ℕ, length, arith}
+use Rattle.std.proofs.Common.{inl, inr, arith}
 use Rattle.path_filter.specs.Plan.{Owns}
 use Rattle.path_filter.specs.Positions.{Has}
-use Rattle.path_filter.proofs.EvaluateSteps.{read}
 use Rattle.path_filter.proofs.MarkLaws.{all_marked}
 use Rattle.path_filter.proofs.passes.own.Goals as goal
 

@@ -1,4 +1,3 @@
-use Rattle.std.proofs.Common.{ℕ}
 use Rattle.path_filter.specs.Marks.{MarkedBelow}
 use Rattle.path_filter.specs.Plan.{Owns}
 use Rattle.path_filter.specs.Positions.{Has}

@@ -1,7 +1,6 @@
 use Rattle.std.proofs.Common.{◌≡◌, ◌∙◌, ◌↔◌, ◌++◌, ◌+◌, Some, drop, sym, subst, ap}
 use Rattle.std.specs.Bool.{OnTrue}
 use Rattle.voe_tree.specs.Contents.{string_of}
-use Rattle.filter_text.specs.Filter.{Text}
 use Rattle.path_filter.specs.Cursors.{Fits, left, texts_of}
 use Rattle.path_filter.proofs.EvaluateSteps.{read}
 use Rattle.path_filter.proofs.Texts.{texts-element, texts-text, moved}

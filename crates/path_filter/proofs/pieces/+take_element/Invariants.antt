@@ -1,4 +1,4 @@
-use Rattle.std.proofs.Common.{◌≡◌, ◌↔◌, ◌+◌, ◌++◌, length, drop}
+use Rattle.std.proofs.Common.{◌≡◌, ◌↔◌, ◌++◌, drop}
 use Rattle.voe_tree.specs.Contents.{string_of}
 use Rattle.filter_text.specs.Filter.{Text}
 use Rattle.path_filter.specs.Cursors.{Fits, left, texts_of}

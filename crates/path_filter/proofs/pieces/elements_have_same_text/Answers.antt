@@ -1,4 +1,4 @@
-use Rattle.std.proofs.Common.{◌≡◌, ◌∙◌, ◌++◌, [], refl, sym, subst, ap, append-nil}
+use Rattle.std.proofs.Common.{◌≡◌, ◌∙◌, ◌++◌, [], sym, subst, ap, append-nil}
 use Rattle.std.specs.Bool.{OnTrue, OnFalse}
 use Rattle.voe_tree.specs.Contents.{string_of}
 use Rattle.filter_text.specs.Filter.{Text}

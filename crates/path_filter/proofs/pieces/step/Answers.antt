@@ -1,6 +1,5 @@
-use Rattle.std.proofs.Common.{◌≡◌, ◌∙◌, ◌+◌, ◌-◌, ◌<◌, ◌≤◌, ◌++◌, ◌∷◌, [], suc, length, set, arith, sym, subst, ap}
+use Rattle.std.proofs.Common.{◌∙◌, ◌-◌, ◌++◌, ◌∷◌, set, arith, sym, ap}
 use Rattle.std.proofs.Math.ListN.{length-set}
-use Rattle.voe_tree.specs.declared.element.Node.TheVariants as tree
 use Rattle.path_filter.specs.Cursors.{levels_text}
 use Rattle.path_filter.proofs.CursorLaws.{closed, piece, entered, top}
 use Rattle.path_filter.proofs.pieces.step.Goals as goal

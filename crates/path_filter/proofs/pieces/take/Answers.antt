@@ -1,7 +1,6 @@
-use Rattle.std.proofs.Common.{◌≡◌, ◌∙◌, ◌↔◌, ◌++◌, refl, sym, subst, ap, arith}
+use Rattle.std.proofs.Common.{◌∙◌, ◌++◌, refl, sym, ap, arith}
 use Rattle.std.proofs.lemmas.Bool.Decides.{Decides-eqb}
 use Rattle.std.proofs.lemmas.Slice.Eq.{slice_eq-Decides}
-use Rattle.filter_text.specs.Filter.{Text}
 use Rattle.path_filter.specs.Cursors.{levels_text}
 use Rattle.path_filter.proofs.EvaluateSteps.{contra}
 use Rattle.path_filter.proofs.Fronts.{behind_fronts, other_fronts, not_not, not_false}

@@ -1,4 +1,4 @@
-use Rattle.std.proofs.Common.{◌≡◌, ◌↔◌, ◌++◌, ℕ, List, map, drop}
+use Rattle.std.proofs.Common.{◌≡◌, ◌↔◌, ◌++◌, ℕ, List, drop}
 use Rattle.voe_tree.specs.Contents.{string_of}
 use Rattle.path_filter.proofs.Texts.{texts_of}
 use Rattle.path_filter.proofs.text.+behind_text.Given as goal

@@ -1,5 +1,5 @@
-use Rattle.std.proofs.Common.{◌≡◌, map, drop, sym, subst}
-use Rattle.path_filter.specs.Plan.{CheckAsks, ChecksAsk, check_of, checks_of}
+use Rattle.std.proofs.Common.{map, sym, subst}
+use Rattle.path_filter.specs.Plan.{ChecksAsk, check_of, checks_of}
 use Rattle.path_filter.specs.Positions.{Has}
 use Rattle.path_filter.proofs.AskLaws.{check_asks-more, first_and_rest}
 use Rattle.path_filter.proofs.visit.+asks.Goals as goal

@@ -1,4 +1,4 @@
-use Rattle.std.proofs.Common.{◌≡◌, inr, map, refl, sym, subst}
+use Rattle.std.proofs.Common.{inr, map, refl, sym, subst}
 use Rattle.path_filter.specs.Plan.{ChecksAsk, check_of, checks_of, stage_checks}
 use Rattle.path_filter.specs.Positions.{Has}
 use Rattle.path_filter.proofs.AskLaws.{checks_ask-more}

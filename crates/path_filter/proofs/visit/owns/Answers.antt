@@ -1,4 +1,4 @@
-use Rattle.std.proofs.Common.{◌≡◌, ◌⊎◌, inl, inr, Some, refl, sym, subst}
+use Rattle.std.proofs.Common.{◌≡◌, refl, subst}
 use Rattle.filter_text.specs.Filter.{Part, element, attribute}
 use Rattle.filter_text.specs.View.{part_of, test_of}
 use Rattle.path_filter.specs.Meaning.{MeetsName}

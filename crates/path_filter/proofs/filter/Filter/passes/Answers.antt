@@ -1,9 +1,8 @@
-use Rattle.std.proofs.Common.{◌≡◌, ◌∙◌, ◌-◌, ◌<◌, ◌≤◌, ◌+◌, suc, [], length, sym, subst, arith}
+use Rattle.std.proofs.Common.{◌≡◌, ◌∙◌, ◌-◌, suc, [], length, sym, subst, arith}
 use Rattle.filter_text.specs.View.{path_of}
 use Rattle.path_filter.specs.Meaning.{Passes}
-use Rattle.path_filter.specs.Places.{document}
-use Rattle.path_filter.specs.Plan.{At, IsMade, StagesAreSmall, newest}
-use Rattle.path_filter.specs.Planned.{IsPlanOf, PlanPasses}
+use Rattle.path_filter.specs.Plan.{newest}
+use Rattle.path_filter.specs.Planned.{IsPlanOf}
 use Rattle.path_filter.proofs.GrowLaws.{non_empty, passes_last}
 use Rattle.path_filter.proofs.PlanLaws.{by_path, newest_length}
 use Rattle.path_filter.proofs.PrefixLaws.{document_of_last, made_small}

@@ -1,4 +1,4 @@
-use Rattle.std.proofs.Common.{◌≡◌, ◌+◌, ◌∷◌, ◌++◌, [], Option, Some, None, List, take, sym, subst}
+use Rattle.std.proofs.Common.{◌+◌, ◌∷◌, [], Option, Some, None, take, sym, subst}
 use Rattle.std.specs.Option.{MatchOption}
 use Rattle.xml_lexer.specs.Characters.{Text}
 use Rattle.filter_text.specs.View.{path_of}

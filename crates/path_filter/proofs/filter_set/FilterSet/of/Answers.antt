@@ -1,4 +1,4 @@
-use Rattle.std.proofs.Common.{◌≡◌, ◌+◌, ◌∷◌, ◌++◌, [], Some, take, sym, subst}
+use Rattle.std.proofs.Common.{◌+◌, take, sym, subst}
 use Rattle.filter_text.specs.View.{path_of}
 use Rattle.filter_text.specs.Reading.{Reads}
 use Rattle.path_filter.specs.Sets.{AreRead}

@@ -1,4 +1,4 @@
-use Rattle.std.proofs.Common.{◌≡◌, ◌/◌, ◌<◌, length, arith}
+use Rattle.std.proofs.Common.{◌≡◌, length, arith}
 use Rattle.path_filter.specs.Positions.{Has}
 use Rattle.path_filter.proofs.Bits.{set-bit}
 use Rattle.path_filter.proofs.positions.Positions.add.Goals as goal
