@@ -1,5 +1,5 @@
 -- What an arriving packet or answer does to the parts.
-use Rattle.std.proofs.Common.{◌≡◌, ◌≢◌, ℕ, zero, suc, ◌+◌, ◌≤◌, ◌<◌, Bool, true, false, cond, List, [], ◌∷◌, ◌++◌, Some, None, inl, inr, length, refl, sym, ◌∙◌, ap, subst, arith}
+use Rattle.std.proofs.Common.{◌≡◌, ◌≢◌, ℕ, ◌<◌, Bool, true, false, cond, List, [], ◌∷◌, ◌++◌, Some, None, inl, inr, length, refl, sym, ◌∙◌, ap, subst, arith}
 use Rattle.std.specs.Prelude.{Option, map, slice_get, slice_set, ◌⊎◌}
 use Rattle.std.proofs.lemmas.Option.{slice_get_within}
 use Rattle.net_model.specs.declared.note.Note.{Note}
@@ -26,14 +26,13 @@ use Rattle.net_machine.proofs.Acts.{kind-at}
 use Rattle.net_machine.proofs.Moved.{configs-set, happened-still, noted, right-at, whole-only, whole-wire}
 use Rattle.net_machine.proofs.Seats.{map-get, some-one}
 use Rattle.net_machine.proofs.Sends.{notes-is, over, sessions-is}
-use Rattle.net_machine.specs.declared.work.Work.{Work}
 use Rattle.net_machine.specs.declared.work.Work.TheVariants as works
-use Rattle.net_machine.specs.Ends.{AllPackets, EndView, IsPacket, note_packet}
-use Rattle.net_machine.specs.Works.{IsAbout, IsOver, OnlyBrings, reply_of, work_added, work_answer, worked}
+use Rattle.net_machine.specs.Ends.{AllPackets, EndView, IsPacket}
+use Rattle.net_machine.specs.Works.{IsOver, OnlyBrings, reply_of, work_added, work_answer, worked}
 use Rattle.net_machine.specs.Wires.{HasNoAnswer, HasNoPacket, IsAnswerOff, IsTakenOff}
-use Rattle.net_machine.specs.Steppers.{hearer, hearer_of_first, is_heard, taker}
+use Rattle.net_machine.specs.Steppers.{hearer, is_heard, taker}
 use Rattle.net_machine.specs.Works.{is_step}
-use Rattle.net_machine.specs.Parts.{AreRight, Happened, IsLive, IsWhole, Moment, Rightness, Slot, configs_of, node_of, state_of}
+use Rattle.net_machine.specs.Parts.{Happened, IsWhole, Moment, Rightness, Slot, node_of, state_of}
 
 -- a wire with something under way is connected
 not-empty : {X : Type 0} (x : X) (rest xs : List X) → xs ≡ x ∷ rest → xs ≡ [] → ⊥
@@ -53,13 +52,14 @@ lower-kind graph packets m e edge slot proper whole is at kind =
     elim (proper.ends e edge is) [
       | inl author ↦ broker_not (some-one Broker slot.view.config.kind (sym author.1 ∙ own) ∙ kind)
       | inr broker ↦ elim broker.1 [
-          | inl one ↦ broker_not (some-one Broker slot.view.config.kind (sym one ∙ own) ∙ kind)
-          | inr one ↦ subscriber_not (some-one Subscriber slot.view.config.kind (sym one ∙ own) ∙ kind)
-        ]
+        | inl one ↦ broker_not (some-one Broker slot.view.config.kind (sym one ∙ own) ∙ kind)
+        | inr one ↦ subscriber_not (some-one Subscriber slot.view.config.kind (sym one ∙ own) ∙ kind)
+      ]
     ]
   where
     broker_not : Broker ≡ Author → ⊥
     broker_not h = cc
+
     subscriber_not : Subscriber ≡ Author → ⊥
     subscriber_not h = cc
 
@@ -70,9 +70,9 @@ lower-within graph packets m e edge proper whole is =
     elim (proper.ends e edge is) [
       | inl author ↦ (let few = slice_get_within graph.nodes edge.lower Broker author.1 in omega arith)
       | inr broker ↦ elim broker.1 [
-          | inl one ↦ (let few = slice_get_within graph.nodes edge.lower Broker one in omega arith)
-          | inr one ↦ (let few = slice_get_within graph.nodes edge.lower Subscriber one in omega arith)
-        ]
+        | inl one ↦ (let few = slice_get_within graph.nodes edge.lower Broker one in omega arith)
+        | inr one ↦ (let few = slice_get_within graph.nodes edge.lower Subscriber one in omega arith)
+      ]
     ]
 
 -- a packet that was taken off a wire is work for the lower end
@@ -114,8 +114,10 @@ pub arrive-does : (rules : Rules) (graph : Graph) (packets : List (List ℕ)) (m
     → IsProper graph → IsWhole graph packets m → slice_get graph.edges e ≡ Some edge → slice_get m.slots edge.lower ≡ Some slot → (took : IsTakenOff m.wires e packet off)
     → from_line ≡ is_author (slice_get graph.nodes edge.upper)
     → arrive rules graph (state_of m) e
-    ≡ record { nodes = more_notes (map node_of m.slots) edge.lower (work_added (rules_at rules edge.lower) slot.view (works.Take from_line packet));
-        wires = slice_set m.wires e (with_answer took.wire took.rest (reply_of slot.view.config.kind (rules_at rules edge.lower) (length slot.view.config.links) slot.view.notes from_line packet).answer) }
+    ≡ record {
+      nodes = more_notes (map node_of m.slots) edge.lower (work_added (rules_at rules edge.lower) slot.view (works.Take from_line packet));
+      wires = slice_set m.wires e (with_answer took.wire took.rest (reply_of slot.view.config.kind (rules_at rules edge.lower) (length slot.view.config.links) slot.view.notes from_line packet).answer);
+    }
 arrive-does rules graph packets m e edge slot packet from_line off proper whole is at took line =
     let own = whole.own edge.lower slot at in
     arrive-is rules graph (state_of m) e edge took.wire packet took.rest (node_of slot)
@@ -175,6 +177,7 @@ arrive-still is_right graph packets m e whole none =
     empty : (rules : Rules) (graph : Graph) (state : State) (e : ℕ) (edge : Edge) (wire : Wire) (down : List (List ℕ)) (found : Option Node) → down ≡ [] → state ≡ arrive_first rules graph state e edge wire down found
     empty rules graph state e edge wire [] found h = refl
     empty rules graph state e edge wire (packet ∷ rest) found h = cc
+
     still : (rules : Rules) (graph : Graph) (state : State) (e : ℕ) (edge : Option Edge) (wire : Option Wire) → HasNoPacket wire → state ≡ arrive_over rules graph state e edge wire
     still rules graph state e None wire h = refl
     still rules graph state e (Some edge) None h = refl
@@ -217,6 +220,7 @@ heard-same rules answer xs ys ss ts a b c d k l one two three four five = rw (on
 
 none_some : (other : List ℕ) → None ≡ Some other → ⊥
 none_some other h = cc
+
 heard-is : (rules : Rules) (graph : Graph) (m : Moment) (edge : Edge) (slot : Slot) (number session : ℕ) (answer : Verdict) (wire : Wire) (e : ℕ)
     → slice_get m.slots edge.upper ≡ Some slot → slice_get graph.nodes edge.upper ≡ Some slot.view.config.kind → number ≡ number_of graph.edges edge.upper e → session ≡ wire.session
     → heard (rules_at rules edge.upper) slot.view.notes slot.view.sessions number session answer (Some slot.view.config.kind)
@@ -273,6 +277,7 @@ hear-still is_right graph packets m e whole none =
     empty : (rules : Rules) (graph : Graph) (state : State) (e : ℕ) (edge : Edge) (wire : Wire) (up : List Verdict) → up ≡ [] → state ≡ hear_first rules graph state e edge wire up
     empty rules graph state e edge wire [] h = refl
     empty rules graph state e edge wire (answer ∷ rest) h = cc
+
     still : (rules : Rules) (graph : Graph) (state : State) (e : ℕ) (edge : Option Edge) (wire : Option Wire) → HasNoAnswer wire → state ≡ hear_over rules graph state e edge wire
     still rules graph state e None wire h = refl
     still rules graph state e (Some edge) None h = refl

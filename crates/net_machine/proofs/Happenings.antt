@@ -7,10 +7,10 @@ use Rattle.net_model.specs.declared.scenario.Inner.{Inner}
 use Rattle.net_model.specs.declared.state.State.{State}
 use Rattle.net_model.specs.Rules.{Rules}
 use Rattle.net_model.specs.Rounds.{drained}
-use Rattle.net_model.specs.Runs.{actor_of, after, beginning, happens, run, stopped}
-use Rattle.net_machine.proofs.Runs.{leads-start, reached-on, run-append}
-use Rattle.net_machine.specs.Events.{AllDone, Done, HappensEither, needs}
-use Rattle.net_machine.specs.Parts.{AreRight, Happened, IsReached, IsSound, Leads, Moment, Rightness, configs_of, nothing, state_of}
+use Rattle.net_model.specs.Runs.{actor_of, after, beginning, happens, stopped}
+use Rattle.net_machine.proofs.Runs.{reached-on, run-append}
+use Rattle.net_machine.specs.Events.{AllDone, Done, HappensEither}
+use Rattle.net_machine.specs.Parts.{AreRight, Happened, IsSound, Leads, Moment, Rightness, configs_of, nothing, state_of}
 use Rattle.net_machine.specs.Stops.{IsCutShort}
 
 -- neither a stop nor a drain
@@ -62,13 +62,13 @@ done-stop is_right graph packets calls fill inner Tell old new sound done = reco
     as-event : (rules : Rules) (kept : Bool) → (event : Event) × (happens rules graph packets (state_of old) event ≡ stopped rules graph packets (state_of old) kept inner (actor_of rules graph packets (state_of old) inner))
     as-event rules true = (Stop 4 0 inner, refl)
     as-event rules false = (Stop 0 0 inner, refl)
+
     reached : (rules : Rules) → AreRight is_right (configs_of new.slots) packets rules → (events : List Event) × (state_of new ≡ after rules graph packets events)
     reached rules right =
         let right_before : AreRight is_right (configs_of old.slots) packets rules = subst (λ cs. AreRight is_right cs packets rules) done.configs right in
         let before = sound.reached rules right_before in
         let kept = done.either rules right_before in
-        let event = as-event rules kept.0 in
-        (
+        let event = as-event rules kept.0 in (
           before.0 ++ event.0 ∷ [],
           kept.1 ∙ sym event.1 ∙ ap (λ (state : State). happens rules graph packets state event.0) before.1 ∙ sym (run-append rules graph packets before.0 (event.0 ∷ []) (beginning graph)),
         )

@@ -1,12 +1,11 @@
 -- What happened leads on.
-use Rattle.std.proofs.Common.{◌≡◌, ◌≢◌, ℕ, zero, suc, ◌+◌, ◌-◌, ◌*◌, ◌≤◌, ◌<◌, Bool, true, false, cond, List, [], ◌∷◌, ◌++◌, Some, None, Ok, Err, inl, inr, length, refl, sym, ◌∙◌, ap, subst, arith, length-append}
-use Rattle.std.specs.Prelude.{Option, Result, map, min, slice_get, ◌^◌}
+use Rattle.std.proofs.Common.{◌≡◌, ℕ, zero, suc, ◌+◌, ◌-◌, ◌*◌, ◌≤◌, ◌<◌, List, [], ◌∷◌, ◌++◌, Ok, Err, length, refl, sym, ◌∙◌, ap, subst, arith, length-append}
+use Rattle.std.specs.Prelude.{Result, map}
 use Rattle.net_model.specs.declared.note.Note.{Note}
 use Rattle.net_model.specs.declared.note.Note.TheVariants.{Wrote, Acked, Refused, Accept, Done, Enter}
 use Rattle.net_model.specs.declared.scenario.Event.{Event}
 use Rattle.net_model.specs.declared.scenario.Event.TheVariants as events
 use Rattle.net_model.specs.declared.scenario.Graph.{Graph}
-use Rattle.net_model.specs.declared.state.Node.{Node}
 use Rattle.net_model.specs.declared.state.State.{State}
 use Rattle.net_model.specs.Rules.{Rules}
 use Rattle.net_model.specs.Flights.{arrive, hear}
@@ -18,10 +17,9 @@ use Rattle.net_model.proofs.Kept.{IsSound-run}
 use Rattle.net_model.proofs.Members.{get-other}
 use Rattle.net_model.proofs.Sessions.{IsCurrent-after}
 use Rattle.net_machine.proofs.Seats.{some-one}
-use Rattle.net_machine.specs.Counts.{Caused, NoneFell, Rose, RoseAt, total}
+use Rattle.net_machine.specs.Counts.{Caused, NoneFell, Rose, total}
 use Rattle.net_machine.specs.declared.fault.StepFault.{StepFault}
-use Rattle.net_machine.specs.declared.fault.StepFault.TheVariants.{Disk}
-use Rattle.net_machine.specs.Parts.{AreRight, Happened, IsReached, IsSound, IsWhole, Leads, Moment, Rightness, Slot, configs_of, node_of, nothing, state_of}
+use Rattle.net_machine.specs.Parts.{AreRight, Happened, IsReached, IsSound, Leads, Moment, Rightness, Slot, configs_of, node_of, nothing, state_of}
 
 pub run-append : (rules : Rules) (graph : Graph) (packets : List (List ℕ)) (one two : List Event) (state : State)
     → run rules graph packets (one ++ two) state ≡ run rules graph packets two (run rules graph packets one state)
@@ -33,12 +31,11 @@ pub reached-on : (is_right : Rightness) (graph : Graph) (packets : List (List �
     → Happened is_right graph packets event old new → IsReached is_right graph packets new
 reached-on is_right graph packets event old new reached done rules right =
     let right_before : AreRight is_right (configs_of old.slots) packets rules = rw done.configs at right in
-    let before = reached rules right_before in
-    (
+    let before = reached rules right_before in (
       before.0 ++ event ∷ [],
       done.value rules right_before
-      ∙ ap (λ (state : State). happens rules graph packets state event) before.1
-      ∙ sym (run-append rules graph packets before.0 (event ∷ []) (beginning graph)),
+          ∙ ap (λ (state : State). happens rules graph packets state event) before.1
+          ∙ sym (run-append rules graph packets before.0 (event ∷ []) (beginning graph)),
     )
 
 pub leads-start : (is_right : Rightness) (graph : Graph) (packets : List (List ℕ)) (all : Rules → State → State) (m : Moment) → IsSound is_right graph packets m

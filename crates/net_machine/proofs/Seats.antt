@@ -1,5 +1,5 @@
 -- One of the seats is changed.
-use Rattle.std.proofs.Common.{◌≡◌, ℕ, false, zero, suc, ◌≤◌, ◌<◌, List, [], ◌∷◌, Some, None, inl, inr, length, refl, sym, ◌∙◌, ap, arith}
+use Rattle.std.proofs.Common.{◌≡◌, ℕ, false, zero, suc, ◌≤◌, ◌<◌, List, [], ◌∷◌, Some, inl, inr, length, refl, sym, ◌∙◌, ap, arith}
 use Rattle.std.specs.Prelude.{map, slice_get, slice_set}
 use Rattle.net_model.proofs.Members.{get-set, get-set_same, length-slice_set}
 use Rattle.net_machine.proofs.Lists.{set-same}

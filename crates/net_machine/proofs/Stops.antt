@@ -1,10 +1,9 @@
 -- What a stop does to the parts.
-use Rattle.std.proofs.Common.{◌≡◌, ◌≢◌, ℕ, zero, suc, ◌+◌, ◌≤◌, ◌<◌, Bool, true, false, cond, List, [], ◌∷◌, ◌++◌, Some, None, inl, inr, length, refl, sym, ◌∙◌, ap, subst, arith, eq-eqb}
-use Rattle.std.specs.Prelude.{Option, map, slice_get, slice_set, ◌⊎◌, ◌==◌, ◌||◌, nat_lt, option_map}
+use Rattle.std.proofs.Common.{◌≡◌, ℕ, Bool, true, false, cond, List, [], ◌∷◌, Some, None, inl, inr, length, refl, sym, ◌∙◌, ap, subst, arith, eq-eqb}
+use Rattle.std.specs.Prelude.{Option, map, slice_get, slice_set, ◌==◌, ◌||◌, nat_lt, option_map}
 use Rattle.std.proofs.lemmas.Bool.{lt-ltb}
 use Rattle.net_model.specs.declared.note.Note.{Note}
 use Rattle.net_model.specs.declared.scenario.Edge.{Edge}
-use Rattle.net_model.specs.declared.scenario.Event.TheVariants as events
 use Rattle.net_model.specs.declared.scenario.Graph.{Graph}
 use Rattle.net_model.specs.declared.scenario.Inner.{Inner}
 use Rattle.net_model.specs.declared.scenario.Inner.TheVariants as inners
@@ -13,26 +12,25 @@ use Rattle.net_model.specs.declared.state.State.{State}
 use Rattle.net_model.specs.declared.state.Verdict.{Verdict}
 use Rattle.net_model.specs.declared.state.Wire.{Wire}
 use Rattle.net_model.specs.Rules.{Rules, NodeRules, rules_at}
-use Rattle.net_model.specs.Nodes.{is_author, is_up, more_notes, notes_at, notes_of, number_of, with_notes, with_wire}
+use Rattle.net_model.specs.Nodes.{is_author, is_up, more_notes, notes_at, notes_of, number_of}
 use Rattle.net_model.specs.Connections.{crash_node, cut_round, down_node, unconnected, with_node}
-use Rattle.net_model.specs.Flights.{arrive, hear, with_answer, without_answer, writes}
+use Rattle.net_model.specs.Flights.{with_answer, without_answer, writes}
 use Rattle.net_model.specs.Laws.{IsIn}
 use Rattle.net_model.specs.Draining.{IsProper}
-use Rattle.net_model.specs.Runs.{actor_of, happens, has_answer, has_packet, inner_happens, is_kept, is_new, is_new_identifier, stopped}
+use Rattle.net_model.specs.Runs.{actor_of, has_answer, has_packet, inner_happens, is_kept, is_new, is_new_identifier, stopped}
 use Rattle.net_model.proofs.Members.{IsIn-get, get-set_same, set-set}
 use Rattle.net_machine.proofs.Acts.{writes-up}
 use Rattle.net_machine.proofs.Arrivals.{arrive-does, hear-does}
 use Rattle.net_machine.proofs.Crashes.{cut-reset, reset-set, whole-crashed}
-use Rattle.net_machine.proofs.Lists.{set-same}
 use Rattle.net_machine.proofs.Moved.{configs-set, noted, right-at}
 use Rattle.net_machine.proofs.Seats.{map-get, map-set, some-one}
 use Rattle.net_machine.specs.declared.work.Work.{Work}
 use Rattle.net_machine.specs.declared.work.Work.TheVariants as works
-use Rattle.net_machine.specs.Ends.{EndView, crashed, note_packet, noting}
+use Rattle.net_machine.specs.Ends.{EndView, crashed, noting}
 use Rattle.net_machine.specs.Parts.{AreRight, IsWhole, Moment, Rightness, Slot, configs_of, node_of, state_of}
 use Rattle.net_machine.specs.Stops.{IsCutShort}
 use Rattle.net_machine.specs.Wires.{IsAnswerOff, IsTakenOff, reset_round, touches}
-use Rattle.net_machine.specs.Works.{IsAbout, OnlyBrings, brought, cut_short, reply_of, work_added, worked}
+use Rattle.net_machine.specs.Works.{IsAbout, OnlyBrings, brought, cut_short, reply_of, work_added}
 
 -- what a node's crash leaves, with the record of its step
 crash-worked : (graph : Graph) (slots : List Slot) (wires : List Wire) (n : ℕ) (slot : Slot) (added : List Note) → slice_get slots n ≡ Some slot
@@ -105,10 +103,10 @@ cut-short is_right graph packets calls fill inner Tell m n slot work slots taken
     record {
       configs = rw only.1 (configs-set m.slots n slot new at (ap (λ (v : EndView). v.config) only.2.same));
       whole = rw (only.1, reset, places_is) (whole-crashed graph packets m n slot new whole at (ap (λ (v : EndView). v.config) only.2.same)
-      (λ note packet stands has. elim (only.2.only note stands) [
-        | inl before ↦ whole.kept n slot note packet at before has
-        | inr one ↦ ours packet (sym one ∙ has)
-      ]));
+          (λ note packet stands has. elim (only.2.only note stands) [
+            | inl before ↦ whole.kept n slot note packet at before has
+            | inr one ↦ ours packet (sym one ∙ has)
+          ]));
       either = λ rules right.
           let kept = either (rules_at rules n) (right-at is_right m.slots packets rules n slot right at) in
           (kept.0, outcome rules right kept.0 kept.1);
@@ -168,11 +166,14 @@ stop-write is_right graph packets calls fill Tell m author number slot packet sl
     exact either only refl wires_is places_is
     (λ rules right. write-actor rules graph packets m author number slot packet true at up kind given
     (new (rules_at rules author) (right-at is_right m.slots packets rules author slot right at)))
-    (λ rules. (m.wires,
-    ap (λ (b : Bool). writes rules (state_of m) author b (slice_get (map node_of m.slots) author) (slice_get packets number)) kind
-    ∙ ap (λ (o : Option Node). writes rules (state_of m) author true o (slice_get packets number)) (map-get node_of m.slots author slot at)
-    ∙ ap (λ (o : Option (List ℕ)). writes rules (state_of m) author true (Some (node_of slot)) o) given
-    ∙ writes-up rules (state_of m) author (node_of slot) packet (map-get node_of m.slots author slot at) up, refl))
+    (λ rules. (
+      m.wires,
+      ap (λ (b : Bool). writes rules (state_of m) author b (slice_get (map node_of m.slots) author) (slice_get packets number)) kind
+          ∙ ap (λ (o : Option Node). writes rules (state_of m) author true o (slice_get packets number)) (map-get node_of m.slots author slot at)
+          ∙ ap (λ (o : Option (List ℕ)). writes rules (state_of m) author true (Some (node_of slot)) o) given
+          ∙ writes-up rules (state_of m) author (node_of slot) packet (map-get node_of m.slots author slot at) up,
+      refl,
+    ))
 
 -- the packet is not new
 pub stop-known : (is_right : Rightness) (graph : Graph) (packets : List (List ℕ)) (calls fill : ℕ) (Tell : Type 0) (m : Moment) (author number : ℕ) (slot : Slot) (packet : List ℕ)
@@ -191,9 +192,9 @@ pub stop-down : (is_right : Rightness) (graph : Graph) (packets : List (List ℕ
 stop-down is_right graph packets calls fill Tell m author number slot whole at down kind =
     no-cut-short is_right graph packets calls fill (inners.Write author number) Tell m whole
     (λ rules right.
-        ap (λ (b : Bool). cond b (cond (is_up (slice_get (map node_of m.slots) author)) (cond (is_new rules (notes_at (state_of m) author) (slice_get packets number)) (Some author) None) None) None) kind
-        ∙ ap (λ (o : Option Node). cond (is_up o) (cond (is_new rules (notes_of o) (slice_get packets number)) (Some author) None) None) (map-get node_of m.slots author slot at)
-        ∙ ap (λ (b : Bool). cond b (cond (is_new rules slot.view.notes (slice_get packets number)) (Some author) None) None) down)
+    ap (λ (b : Bool). cond b (cond (is_up (slice_get (map node_of m.slots) author)) (cond (is_new rules (notes_at (state_of m) author) (slice_get packets number)) (Some author) None) None) None) kind
+    ∙ ap (λ (o : Option Node). cond (is_up o) (cond (is_new rules (notes_of o) (slice_get packets number)) (Some author) None) None) (map-get node_of m.slots author slot at)
+    ∙ ap (λ (b : Bool). cond b (cond (is_new rules slot.view.notes (slice_get packets number)) (Some author) None) None) down)
 
 -- the end that takes, and the one that hears
 take-actor : (rules : Rules) (graph : Graph) (packets : List (List ℕ)) (m : Moment) (e : ℕ) (edge : Edge) (wire : Wire) (packet : List ℕ) (rest : List (List ℕ))

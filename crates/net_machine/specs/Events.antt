@@ -1,5 +1,5 @@
 -- What an event did to the network.
-use Rattle.std.specs.Prelude.{◌≡◌, ℕ, Bool, List, [], ◌∷◌}
+use Rattle.std.specs.Prelude.{◌≡◌, ℕ, Bool, List}
 use Rattle.net_model.specs.declared.scenario.Event.{Event}
 use Rattle.net_model.specs.declared.scenario.Event.TheVariants.{Stop}
 use Rattle.net_model.specs.declared.scenario.Graph.{Graph}

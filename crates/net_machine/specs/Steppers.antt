@@ -1,5 +1,5 @@
 -- The node whose end steps at an event.
-use Rattle.std.specs.Prelude.{◌≡◌, ℕ, Bool, true, false, cond, nat_lt, List, [], ◌∷◌, Option, Some, None, option_map, slice_get}
+use Rattle.std.specs.Prelude.{◌≡◌, ℕ, Bool, false, cond, nat_lt, List, [], ◌∷◌, Option, Some, None, option_map, slice_get}
 use Rattle.net_model.specs.declared.scenario.Edge.{Edge}
 use Rattle.net_model.specs.declared.scenario.Event.{Event}
 use Rattle.net_model.specs.declared.scenario.Event.TheVariants.{Write, Send, Down, Up, Connect}

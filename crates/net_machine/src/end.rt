@@ -47,7 +47,12 @@ pub trait NetEnd {
         ensures faults { HasCause (faults self.old) (faults self.new) result };
 
     /// The first packet, at or past a place, that is open on this line or owed on this link, with its record's place.
-    fn next(&mut self, number: u16, session: u64, after: usize) -> Result<Option<(usize, Bytes)>, EndFault>
+    fn next(
+        &mut self,
+        number: u16,
+        session: u64,
+        after: usize,
+    ) -> Result<Option<(usize, Bytes)>, EndFault>
         requires { IsOver (view self.old) number session }
         ensures found { IfOk result (λ found. found
             ≡ option_map sent_of (first_from (to_send (view self.old).notes number) after 0 (view self.old).notes)) }

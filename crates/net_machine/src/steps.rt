@@ -121,7 +121,11 @@ pub fn send<N: NetEnd>(plan: &Plan<'_>, parts: &mut Parts<N>, edge: u16) -> Resu
 }
 
 /// The first packet in flight reaches the lower end, whose answer goes into flight. Tells whether there was one.
-pub fn arrive<N: NetEnd>(plan: &Plan<'_>, parts: &mut Parts<N>, edge: u16) -> Result<bool, StepFault>
+pub fn arrive<N: NetEnd>(
+    plan: &Plan<'_>,
+    parts: &mut Parts<N>,
+    edge: u16,
+) -> Result<bool, StepFault>
     requires packets { AllPackets plan.now.packets.now }
     requires proper { IsProper plan.now.graph }
     requires whole { IsWhole plan.now.graph plan.now.packets.now (moment_of N.view parts.old) }

@@ -1,5 +1,5 @@
 -- One record more.
-use Rattle.std.proofs.Common.{◌≡◌, ◌<◌, sym, ◌∙◌, length, arith}
+use Rattle.std.proofs.Common.{sym, arith}
 use Rattle.net_machine.specs.Report.{is_sort}
 use Rattle.net_machine.proofs.Reported.{count-next, one-few}
 use Rattle.net_machine.proofs.Seats.{get-some}
