@@ -7,7 +7,8 @@ use Rattle.net_model.specs.declared.scenario.Event.TheVariants.{Write, Send, Dow
 use Rattle.voe_scenario.specs.Words.{is_number}
 use Rattle.voe_scenario.specs.Grammar.{said_of, is_role}
 use Rattle.voe_scenario.specs.Graphs.{is_kind}
-use Rattle.voe_scenario.specs.Refusals.{is_passed_over, refusal_of}
+use Rattle.voe_scenario.specs.Lines.{is_passed_over}
+use Rattle.voe_scenario.specs.Refusals.{refusal_of}
 use Rattle.voe_scenario.specs.Scenarios.{nothing_yet, read_from, scenario_of}
 
 -- each line with its line feed

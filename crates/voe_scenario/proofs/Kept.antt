@@ -20,6 +20,7 @@ use Rattle.net_model.specs.declared.scenario.Graph.{Graph}
 use Rattle.net_model.specs.Draining.{IsProper}
 use Rattle.net_model.specs.Nodes.{links_of}
 use Rattle.voe_scenario.specs.Sound.{IsNamed, IsShort, IsSound}
+use Rattle.voe_scenario.specs.Taking.{IsFitting}
 use Rattle.voe_scenario.proofs.Names.{IsJoined, both, is_kind-true, joins_line-true, joins_link-true}
 
 equal : (m n : ℕ) → (m == n) ≡ true → m ≡ n
@@ -225,3 +226,8 @@ nothing_sound = record {
   named = λ k d h. absurd (omega arith);
   short = λ k d h. absurd (omega arith);
 }
+
+-- what breaks no rule keeps a scenario sound
+pub sound_with : (before after : Scenario) (line : List ℕ) (said : Said) → IsSound before → IsFitting before line said → after ≡ with_said before said → IsSound after
+sound_with before after line said sound fitting is =
+    rw is (kept before said sound (spoken line said fitting.says) fitting.placed fitting.named fitting.within)

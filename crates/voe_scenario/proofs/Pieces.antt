@@ -4,6 +4,7 @@ use Rattle.std.proofs.Common.{None}
 use Rattle.std.specs.List.{slice_split, onto_first, count_by}
 use Rattle.std.proofs.lemmas.List.{take_all, length-drop}
 use Rattle.std.proofs.lemmas.List.Splits.{slice_split-cons_yes, slice_split-cons_no, length-slice_split}
+use Rattle.voe_scenario.specs.ConfigGrammar.{config_words_said}
 use Rattle.voe_scenario.specs.Grammar.{words_said}
 
 -- an element that isn't true is false
@@ -40,3 +41,11 @@ too_many word first second (third ∷ others) n is = refl
 
 pub too_many_words : (p : ℕ → Bool) (word first second rest : List ℕ) → words_said (word ∷ first ∷ second ∷ slice_split p rest) ≡ None
 too_many_words p word first second rest = too_many word first second (slice_split p rest) (count_by p rest) (length-slice_split p rest)
+
+-- more than one word behind the first are no line of a configuration
+too_many_of_config : (word first : List ℕ) (others : List (List ℕ)) (n : ℕ) → length others ≡ n + 1 → config_words_said (word ∷ first ∷ others) ≡ None
+too_many_of_config word first [] n is = absurd (omega arith)
+too_many_of_config word first (second ∷ others) n is = refl
+
+pub too_many_config_words : (p : ℕ → Bool) (word first rest : List ℕ) → config_words_said (word ∷ first ∷ slice_split p rest) ≡ None
+too_many_config_words p word first rest = too_many_of_config word first (slice_split p rest) (count_by p rest) (length-slice_split p rest)

@@ -1,15 +1,10 @@
 -- Lines one after another.
-use Rattle.std.proofs.Common.{◌≡◌, ℕ, ◌+◌, ◌<◌, List, [], ◌∷◌, Option, Some, None, Result, Ok, Err, IfNone, IfSome, length, refl, sym, ◌∙◌, arith, Bor}
-use Rattle.voe_scenario.specs.declared.scenario.Scenario.{Scenario}
-use Rattle.voe_scenario.specs.declared.text.ScenarioFault.{ScenarioFault}
-use Rattle.voe_scenario.specs.declared.text.ScenarioFault.TheVariants.{Refused, NoMemory}
-use Rattle.voe_scenario.specs.Grammar.{Said}
-use Rattle.voe_scenario.specs.Refusals.{refusal_of}
-use Rattle.voe_scenario.specs.Scenarios.{read_from, with_said, Refusal, IsRefusalOf}
-use Rattle.voe_scenario.specs.Sound.{IsSound}
-use Rattle.voe_scenario.specs.Taking.{IsFitting, IsTaken, IsRefusedBy}
+use Rattle.std.proofs.Common.{◌≡◌, ℕ, ◌+◌, ◌<◌, List, [], ◌∷◌, Option, Some, None, Result, Ok, Err, IfNone, IfSome, length, refl, subst, arith, Bor}
+use Rattle.voe_scenario.specs.declared.fault.ScenarioFault.{ScenarioFault}
+use Rattle.voe_scenario.specs.declared.fault.ScenarioFault.TheVariants.{Refused, NoMemory}
+use Rattle.voe_scenario.specs.Faults.{IsFaultAt, IsTextFault}
+use Rattle.voe_scenario.specs.Lines.{IsRefusedBy, LinesRead, Refusal, taken_with}
 use Rattle.voe_scenario.specs.Words.{lines_of}
-use Rattle.voe_scenario.proofs.Kept.{kept, spoken}
 
 -- the lines of what is left
 abbrev pub lines_left : Option (Bor (List ℕ)) → List (List ℕ)
@@ -30,29 +25,33 @@ pub left_of-cut : (bytes : List ℕ) (behind : Option (Bor (List ℕ))) → IfSo
 left_of-cut bytes None shorter = omega arith
 left_of-cut bytes (Some rest) shorter = omega arith
 
--- what breaks no rule keeps a scenario sound
-pub sound_with : (before after : Scenario) (line : List ℕ) (said : Said) → IsSound before → IsFitting before line said → after ≡ with_said before said → IsSound after
-sound_with before after line said sound fitting is =
-    rw is (kept before said sound (spoken line said fitting.says) fitting.placed fitting.named fitting.within)
+-- whatever the lines left give, all lines give
+abbrev pub LeadOn : {S : Type 0} → (S → List ℕ → Option ℕ → Type 0) → (S → List ℕ → S) → S → List (List ℕ) → S → ℕ → List (List ℕ) → Type 0
+LeadOn {S = S} Refuses with_line start all before place lines =
+    (outcome : Result S Refusal) → LinesRead Refuses with_line before place lines outcome → LinesRead Refuses with_line start 1 all outcome
 
-pub read_from-nil : (before : Scenario) (place : ℕ) → read_from before place [] ≡ Ok before
-unfolding read_from
-read_from-nil before place = refl
+pub lines_read-nil : {S : Type 0} (Refuses : S → List ℕ → Option ℕ → Type 0) (with_line : S → List ℕ → S) (before : S) (place : ℕ)
+    → LinesRead Refuses with_line before place [] (Ok before)
+unfolding LinesRead
+lines_read-nil Refuses with_line before place = refl
 
 -- a line is taken
-pub read_from-taken : (before after : Scenario) (place : ℕ) (line : List ℕ) (lines : List (List ℕ)) → IsTaken before line after
-    → read_from before place (line ∷ lines) ≡ read_from after (place + 1) lines
-unfolding read_from
-read_from-taken before after place line lines taken = rw (taken.unrefused, taken.added) refl
+pub lines_read-taken : {S : Type 0} (Refuses : S → List ℕ → Option ℕ → Type 0) (with_line : S → List ℕ → S) (start : S) (all : List (List ℕ))
+    (before after : S) (place : ℕ) (line : List ℕ) (lines : List (List ℕ))
+    → LeadOn Refuses with_line start all before place (line ∷ lines)
+    → IsRefusedBy Refuses before line None → after ≡ taken_with with_line before line
+    → LeadOn Refuses with_line start all after (place + 1) lines
+unfolding LinesRead
+lines_read-taken Refuses with_line start all before after place line lines leads unrefused taken =
+    λ outcome reads. leads outcome (None, unrefused, subst (λ s. LinesRead Refuses with_line s (place + 1) lines outcome) taken reads)
 
 -- a line is refused
-pub read_from-refused : (before : Scenario) (place : ℕ) (line : List ℕ) (lines : List (List ℕ)) (number : ℕ) → refusal_of before line ≡ Some number
-    → read_from before place (line ∷ lines) ≡ Err (record { number = number; line = place })
-unfolding read_from
-read_from-refused before place line lines number is = rw is refl
-
-pub refusal_told : (before : Scenario) (place : ℕ) (line : List ℕ) (lines all : List (List ℕ)) (whole : Result Scenario Refusal) (fault : ScenarioFault)
-    → IsRefusedBy (refusal_of before line) place fault → all ≡ line ∷ lines → read_from before place all ≡ whole → IsRefusalOf whole fault
-refusal_told before place line lines all whole (Refused number at) refused cut same =
-    sym same ∙ rw (cut, refused.1) (read_from-refused before place line lines number refused.0)
-refusal_told before place line lines all whole NoMemory refused cut same = tt
+pub lines_read-refused : {S : Type 0} (Refuses : S → List ℕ → Option ℕ → Type 0) (with_line : S → List ℕ → S) (start : S) (all : List (List ℕ))
+    (before : S) (place : ℕ) (line : List ℕ) (lines : List (List ℕ)) (fault : ScenarioFault)
+    → LeadOn Refuses with_line start all before place (line ∷ lines)
+    → IsFaultAt (IsRefusedBy Refuses before line) place fault
+    → IsTextFault (LinesRead Refuses with_line start 1 all) fault
+unfolding LinesRead
+lines_read-refused Refuses with_line start all before place line lines (Refused number at) leads refused =
+    leads (Err (record { number = number; line = at })) (Some number, refused.0, rw refused.1 refl)
+lines_read-refused Refuses with_line start all before place line lines NoMemory leads refused = tt

@@ -1,8 +1,10 @@
 -- Why a line is refused, by number: each rule for itself, and the least that is broken decides.
-use Rattle.std.specs.Prelude.{ℕ, Bool, true, false, cond, not, List, [], ◌∷◌, Option, Some, None, length, nat_lt, nat_le, ◌&&◌, ◌||◌, ◌==◌}
+use Rattle.std.specs.Prelude.{◌≡◌, ℕ, Bool, true, false, cond, not, List, [], ◌∷◌, Option, Some, None, length, nat_lt, nat_le, ◌&&◌, ◌||◌}
 use Rattle.net_model.specs.Nodes.{links_of}
 use Rattle.voe_scenario.specs.declared.scenario.Scenario.{Scenario}
 use Rattle.voe_scenario.specs.Grammar.{Said, says_node, says_line, says_link, says_packet, says_write, says_send, says_down, says_up, said_of}
+use Rattle.voe_scenario.specs.Lines.{is_passed_over}
+use Rattle.voe_scenario.specs.Rules.{least_that_holds}
 use Rattle.voe_scenario.specs.Graphs.{is_kind, joins_line, joins_link}
 use Rattle.voe_values.specs.declared.kind.NodeKind.TheVariants.{Author}
 
@@ -54,20 +56,14 @@ abbrev pub passes_limit : Scenario → List ℕ → Option Said → Bool
 passes_limit before line None = nat_lt 2048 (length line)
 passes_limit before line (Some said) = nat_lt 2048 (length line) || not (is_within before said)
 
--- an empty line, or a comment, whatever its bytes and its length
-unfoldable pub is_passed_over : List ℕ → Bool
-is_passed_over [] = true
-is_passed_over (b ∷ bytes) = b == 35
-
 -- which rules a line breaks, behind the lines that made this scenario
 abbrev pub broken_rules : Scenario → List ℕ → List (ℕ × Bool)
 broken_rules before line =
     (1, breaks_grammar before (said_of line)) ∷ (2, names_nothing before (said_of line)) ∷ (3, passes_limit before line (said_of line)) ∷ []
 
-abbrev pub least_that_holds : List (ℕ × Bool) → Option ℕ
-least_that_holds [] = None
-least_that_holds (rule ∷ rules) = cond rule.1 (Some rule.0) (least_that_holds rules)
-
 -- the number by which a line is refused, if it is
 abbrev pub refusal_of : Scenario → List ℕ → Option ℕ
 refusal_of before line = cond (is_passed_over line) None (least_that_holds (broken_rules before line))
+
+abbrev pub RefusesLine : Scenario → List ℕ → Option ℕ → Type 0
+RefusesLine before line refusal = least_that_holds (broken_rules before line) ≡ refusal

@@ -3,11 +3,13 @@ use Rattle.std.specs.Prelude.{◌≡◌, ℕ, ◌+◌, cond, List, [], ◌∷◌
 use Rattle.net_model.specs.declared.scenario.Event.{Event}
 use Rattle.net_model.specs.declared.scenario.Event.TheVariants.{Write, Send, Down, Up}
 use Rattle.voe_scenario.specs.declared.scenario.Scenario.{Scenario}
-use Rattle.voe_scenario.specs.declared.text.ScenarioFault.{ScenarioFault}
-use Rattle.voe_scenario.specs.declared.text.ScenarioFault.TheVariants.{Refused, NoMemory}
+use Rattle.voe_scenario.specs.declared.fault.ScenarioFault.{ScenarioFault}
+use Rattle.voe_scenario.specs.declared.fault.ScenarioFault.TheVariants.{Refused, NoMemory}
 use Rattle.voe_scenario.specs.Words.{lines_of}
+pub use Rattle.voe_scenario.specs.Lines.{Refusal}
 use Rattle.voe_scenario.specs.Grammar.{Said, says_node, says_line, says_link, says_packet, says_write, says_send, says_down, says_up, said_of}
-use Rattle.voe_scenario.specs.Refusals.{is_passed_over, refusal_of}
+use Rattle.voe_scenario.specs.Lines.{is_passed_over}
+use Rattle.voe_scenario.specs.Refusals.{refusal_of}
 
 abbrev pub with_edge : Scenario → ℕ → ℕ → Scenario
 with_edge before upper lower =
@@ -31,14 +33,13 @@ abbrev pub with_any : Scenario → Option Said → Scenario
 with_any before None = before
 with_any before (Some said) = with_said before said
 
+-- the scenario behind a line that isn't passed over
+abbrev pub with_said_line : Scenario → List ℕ → Scenario
+with_said_line before line = with_any before (said_of line)
+
 -- the scenario behind a line that isn't refused
 abbrev pub with_line : Scenario → List ℕ → Scenario
-with_line before line = cond (is_passed_over line) before (with_any before (said_of line))
-
--- a refused line: why, and which, counted from 1
-pub record Refusal : Type 0 where
-  pub number : ℕ
-  pub line : ℕ
+with_line before line = cond (is_passed_over line) before (with_said_line before line)
 
 abbrev pub unless_refused : Option ℕ → ℕ → Result Scenario Refusal → Result Scenario Refusal
 unless_refused None place others = others

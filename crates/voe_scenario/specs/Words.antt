@@ -1,6 +1,6 @@
 -- Lines, words and numbers.
 use Rattle.std.specs.Prelude.{ℕ, ◌+◌, ◌-◌, ◌*◌, cond, Bool, false, List, [], ◌∷◌, Option, Some, None, length, ◌==◌, ◌&&◌, nat_le, fold}
-use Rattle.std.specs.List.{slice_split, list_all}
+use Rattle.std.specs.List.{slice_split, list_all, before_first, after_first}
 
 -- what stands between such bytes
 abbrev pub pieces_of : ℕ → List ℕ → List (List ℕ)
@@ -38,3 +38,14 @@ value_of digits = fold (λ value digit. value * 10 + (digit - 48)) 0 digits
 -- the number that a word is, if it is one
 abbrev pub number_of : List ℕ → Option ℕ
 number_of word = cond (is_number word) (Some (value_of word)) None
+
+abbrev pub is_blank : ℕ → Bool
+is_blank b = b == 32
+
+-- a line up to its first blank
+abbrev pub first_word : List ℕ → List ℕ
+first_word line = before_first is_blank line
+
+-- the rest of a line behind its first blank
+abbrev pub behind_word : List ℕ → List ℕ
+behind_word line = after_first is_blank line

@@ -24,10 +24,10 @@ fn add_edge(scenario: &mut Scenario, upper: u8, lower: u8) -> Result<(), NoMemor
     scenario.graph.edges.push(edge).map_err(|refused| refused.1)
 }
 
-fn add_packet(alloc: Global, scenario: &mut Scenario, packet: &[u8]) -> Result<(), NoMemory>
+fn add_packet(alloc: Global, scenario: &mut Scenario, packet: &str) -> Result<(), NoMemory>
     ensures { OnOk result (scenario.new ≡ record scenario.old { packets = scenario.old.packets ++ packet.now ∷ [] }) }
 {
-    let packet = Bytes::of(alloc, packet)?;
+    let packet = Bytes::of(alloc, packet.as_bytes())?;
     scenario.packets.push(packet).map_err(|refused| refused.1)
 }
 

@@ -4,39 +4,19 @@ ghost use Rattle.std.specs.Prelude.{◌≡◌, IfErr, IfOk, None, Some};
 ghost use Rattle.net_model.specs.Nodes.{links_of};
 ghost use Rattle.voe_scenario.specs.Graphs.{is_kind as is_kind_at, joins_line as joins_line_at, joins_link as joins_link_at};
 ghost use Rattle.voe_scenario.specs.Statements.{meaning};
-ghost use Rattle.voe_scenario.specs.Refusals.{broken_rules, is_named as is_named_in, is_set_up as is_set_up_line, is_within as is_within_limits, least_that_holds};
-ghost use Rattle.voe_scenario.specs.Taking.{IsFitting, number_of_fault};
+ghost use Rattle.voe_scenario.specs.Faults.{number_of_rule};
+ghost use Rattle.voe_scenario.specs.Rules.{least_that_holds};
+ghost use Rattle.voe_scenario.specs.Refusals.{broken_rules, is_named as is_named_in, is_set_up as is_set_up_line, is_within as is_within_limits};
+ghost use Rattle.voe_scenario.specs.Taking.{IsFitting};
 
+use crate::fault::Rule;
 use crate::limits::{
-    EDGES_LIMIT, EVENTS_LIMIT, IDENTIFIER_LIMIT, LINE_LIMIT, LINKS_LIMIT, NODES_LIMIT,
-    PACKETS_LIMIT,
+    EDGES_LIMIT, EVENTS_LIMIT, LINE_LIMIT, LINKS_LIMIT, NAME_LIMIT, NODES_LIMIT, PACKETS_LIMIT,
 };
 use crate::scenario::Scenario;
 use crate::statement::{Statement, read_statement};
 use net_model::Graph;
 use voe_values::{Listing, NodeKind};
-
-/// Which rule a line breaks.
-#[derive(Clone, Copy)]
-pub enum LineFault {
-    /// It is no line of the grammar, or a set-up line behind the first event.
-    Grammar,
-    /// A number names nothing of its kind among what earlier lines brought.
-    Unnamed,
-    /// It passes a limit.
-    Limit,
-}
-
-/// The number that is shown for a broken rule.
-pub fn number_of(fault: LineFault) -> u8
-    ensures { result ≡ number_of_fault fault }
-{
-    match fault {
-        LineFault::Grammar => 1,
-        LineFault::Unnamed => 2,
-        LineFault::Limit => 3,
-    }
-}
 
 /// Tells whether there is such a node, and it is of this kind.
 #[tactic(auto, unfolding(crate::specs::Graphs::is_kind))]
@@ -120,7 +100,7 @@ fn is_within(before: &Scenario, statement: Statement) -> bool
         Statement::Line { upper, .. } | Statement::Link { upper, .. } => {
             graph.edges.len() < EDGES_LIMIT && count_links(graph, upper) < LINKS_LIMIT
         }
-        Statement::Packet { identifier } => identifier.len() <= IDENTIFIER_LIMIT
+        Statement::Packet { identifier } => identifier.len() <= NAME_LIMIT
             && before.packets.len() < PACKETS_LIMIT,
         Statement::Write { .. }
         | Statement::Send { .. }
@@ -130,21 +110,21 @@ fn is_within(before: &Scenario, statement: Statement) -> bool
 }
 
 /// What a line says, or the rule of the least number that it breaks.
-pub fn judge<'a>(before: &Scenario, line: &'a [u8]) -> Result<Statement<'a>, LineFault>
+pub fn judge<'a>(before: &Scenario, line: &'a [u8]) -> Result<Statement<'a>, Rule>
     ensures fits { IfOk result (λ said. IsFitting before.now line.now (meaning said)) }
-    ensures broken { IfErr result (λ fault. least_that_holds (broken_rules before.now line.now) ≡ Some (number_of_fault fault)) }
+    ensures broken { IfErr result (λ fault. least_that_holds (broken_rules before.now line.now) ≡ Some (number_of_rule fault)) }
 {
     let Some(said) = read_statement(line) else {
-        return Err(LineFault::Grammar);
+        return Err(Rule::Grammar);
     };
     if is_set_up(said) && !before.events.is_empty() {
-        return Err(LineFault::Grammar);
+        return Err(Rule::Grammar);
     }
     if !is_named(before, said) {
-        return Err(LineFault::Unnamed);
+        return Err(Rule::Naming);
     }
     if line.len() > LINE_LIMIT || !is_within(before, said) {
-        return Err(LineFault::Limit);
+        return Err(Rule::Limit);
     }
     Ok(said)
 }

@@ -5,13 +5,23 @@
 #![tactic(auto)]
 
 mod add;
+mod config_judge;
+mod config_line;
+mod config_text;
+mod fault;
+mod filter_line;
 mod judge;
+pub mod laws;
 mod limits;
+mod lines;
 mod scenario;
 mod statement;
 mod text;
 mod words;
 
+pub use config_text::read_config;
+pub use fault::ScenarioFault;
 pub use limits::TEXT_LIMIT;
+pub use node_notes::{Config as ConfigText, LinkConfig as LinkText};
 pub use scenario::Scenario;
-pub use text::{ScenarioFault, read_scenario};
+pub use text::read_scenario;

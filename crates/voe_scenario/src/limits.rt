@@ -1,4 +1,4 @@
-//! What a scenario may have at most.
+//! What a text may have at most.
 
 pub const NODES_LIMIT: usize = 64;
 
@@ -11,11 +11,17 @@ pub const PACKETS_LIMIT: usize = 1024;
 
 pub const EVENTS_LIMIT: usize = 1_000_000;
 
-/// The bytes of an identifier.
-pub const IDENTIFIER_LIMIT: usize = 512;
+/// The filters of a link.
+pub const FILTERS_LIMIT: usize = 16;
+
+/// The bytes of a filter's text.
+pub const FILTER_LIMIT: usize = 1024;
+
+/// The bytes of an identifier, or of an end's name.
+pub const NAME_LIMIT: usize = 512;
 
 /// The bytes of a line without its line feed.
 pub const LINE_LIMIT: usize = 2048;
 
-/// The bytes of a scenario's text.
+/// The bytes of a scenario's or configuration's text.
 pub const TEXT_LIMIT: usize = 33_554_432;

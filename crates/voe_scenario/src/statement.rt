@@ -1,12 +1,11 @@
 //! What one line of a scenario says.
 
 ghost use Rattle.std.specs.Prelude.{◌≡◌, ◌∷◌, []};
-ghost use Rattle.std.specs.List.{list_all};
 ghost use Rattle.voe_scenario.specs.Grammar.{edge_event_said, is_role as is_role_word, node_said, packet_said, pair_said, said_of, words_said};
 ghost use Rattle.voe_scenario.specs.Statements.{Means};
-ghost use Rattle.voe_scenario.specs.Words.{is_printable as is_printable_byte, words_of};
+ghost use Rattle.voe_scenario.specs.Words.{words_of};
 
-use crate::words::{cut, number};
+use crate::words::{cut_word, number, printable};
 use voe_values::NodeKind;
 
 /// What a line says, in numbers that may name nothing.
@@ -15,7 +14,7 @@ pub enum Statement<'a> {
     Node(NodeKind),
     Line { upper: u32, lower: u32 },
     Link { upper: u32, lower: u32 },
-    Packet { identifier: &'a [u8] },
+    Packet { identifier: &'a str },
     Write { author: u32, packet: u32 },
     Send { edge: u32 },
     Down { edge: u32 },
@@ -23,14 +22,14 @@ pub enum Statement<'a> {
 }
 
 /// A node, by its kind.
-fn node_statement<'a>(word: &[u8]) -> Option<Statement<'a>>
+fn node_statement<'a>(word: &str) -> Option<Statement<'a>>
     ensures { Means result (node_said word.now) }
 {
-    if word == b"author".as_slice() {
+    if word == "author" {
         Some(Statement::Node(NodeKind::Author))
-    } else if word == b"broker".as_slice() {
+    } else if word == "broker" {
         Some(Statement::Node(NodeKind::Broker))
-    } else if word == b"subscriber".as_slice() {
+    } else if word == "subscriber" {
         Some(Statement::Node(NodeKind::Subscriber))
     } else {
         None
@@ -38,15 +37,15 @@ fn node_statement<'a>(word: &[u8]) -> Option<Statement<'a>>
 }
 
 /// An event on an edge.
-fn edge_event_statement<'a>(word: &[u8], edge: Option<u32>) -> Option<Statement<'a>>
+fn edge_event_statement<'a>(word: &str, edge: Option<u32>) -> Option<Statement<'a>>
     ensures { Means result (edge_event_said word.now edge) }
 {
     let edge = edge?;
-    if word == b"send".as_slice() {
+    if word == "send" {
         Some(Statement::Send { edge })
-    } else if word == b"down".as_slice() {
+    } else if word == "down" {
         Some(Statement::Down { edge })
-    } else if word == b"up".as_slice() {
+    } else if word == "up" {
         Some(Statement::Up { edge })
     } else {
         None
@@ -54,22 +53,22 @@ fn edge_event_statement<'a>(word: &[u8], edge: Option<u32>) -> Option<Statement<
 }
 
 /// A line, a link or a writing, by two numbers.
-fn pair_statement<'a>(word: &[u8], first: Option<u32>, second: Option<u32>) -> Option<Statement<'a>>
+fn pair_statement<'a>(word: &str, first: Option<u32>, second: Option<u32>) -> Option<Statement<'a>>
     ensures { Means result (pair_said word.now first second) }
 {
     let first = first?;
     let second = second?;
-    if word == b"line".as_slice() {
+    if word == "line" {
         Some(Statement::Line {
             upper: first,
             lower: second,
         })
-    } else if word == b"link".as_slice() {
+    } else if word == "link" {
         Some(Statement::Link {
             upper: first,
             lower: second,
         })
-    } else if word == b"write".as_slice() {
+    } else if word == "write" {
         Some(Statement::Write {
             author: first,
             packet: second,
@@ -81,17 +80,14 @@ fn pair_statement<'a>(word: &[u8], first: Option<u32>, second: Option<u32>) -> O
 
 /// Tells whether a word is the role of a packet (VOEvent 2.0, "role").
 #[tactic(auto, unfolding(crate::specs::Grammar::is_role))]
-fn is_role(word: &[u8]) -> bool
+fn is_role(word: &str) -> bool
     ensures { result ≡ is_role_word word.now }
 {
-    word == b"observation".as_slice()
-        || word == b"prediction".as_slice()
-        || word == b"utility".as_slice()
-        || word == b"test".as_slice()
+    word == "observation" || word == "prediction" || word == "utility" || word == "test"
 }
 
 /// A packet, by its identifier and its role.
-fn packet_statement<'a>(identifier: &'a [u8], role: &[u8]) -> Option<Statement<'a>>
+fn packet_statement<'a>(identifier: &'a str, role: &str) -> Option<Statement<'a>>
     ensures { Means result (packet_said identifier.now role.now) }
 {
     if !identifier.is_empty() && is_role(role) {
@@ -102,10 +98,10 @@ fn packet_statement<'a>(identifier: &'a [u8], role: &[u8]) -> Option<Statement<'
 }
 
 /// What a word says with two more behind it.
-fn three_words<'a>(word: &[u8], first: &'a [u8], second: &[u8]) -> Option<Statement<'a>>
+fn three_words<'a>(word: &str, first: &'a str, second: &str) -> Option<Statement<'a>>
     ensures { Means result (words_said (word.now ∷ first.now ∷ second.now ∷ [])) }
 {
-    if word == b"packet".as_slice() {
+    if word == "packet" {
         packet_statement(first, second)
     } else {
         pair_statement(word, number(first), number(second))
@@ -113,14 +109,14 @@ fn three_words<'a>(word: &[u8], first: &'a [u8], second: &[u8]) -> Option<Statem
 }
 
 /// What a word says with what stands behind it.
-fn with_arguments<'a>(word: &[u8], arguments: &'a [u8]) -> Option<Statement<'a>>
+fn with_arguments<'a>(word: &str, arguments: &'a str) -> Option<Statement<'a>>
     ensures { Means result (words_said (word.now ∷ words_of arguments.now)) }
 {
-    let (first, rest) = cut(arguments, b' ');
+    let (first, rest) = cut_word(arguments);
     let Some(rest) = rest else {
         return edge_event_statement(word, number(first));
     };
-    let (second, more) = cut(rest, b' ');
+    let (second, more) = cut_word(rest);
     match more {
         Some(_) => None,
         None => three_words(word, first, second),
@@ -128,21 +124,14 @@ fn with_arguments<'a>(word: &[u8], arguments: &'a [u8]) -> Option<Statement<'a>>
 }
 
 /// What the words of a line say.
-fn words_statement(line: &[u8]) -> Option<Statement<'_>>
+fn words_statement(line: &str) -> Option<Statement<'_>>
     ensures { Means result (words_said (words_of line.now)) }
 {
-    let (word, arguments) = cut(line, b' ');
+    let (word, arguments) = cut_word(line);
     match arguments {
         Some(arguments) => with_arguments(word, arguments),
         None => node_statement(word),
     }
-}
-
-/// Tells whether a line has printable bytes alone.
-fn is_printable(line: &[u8]) -> bool
-    ensures { result ≡ list_all is_printable_byte line.now }
-{
-    line.iter().all(|byte| *byte >= 32 && *byte <= 126)
 }
 
 /// What a line says, if it is one of the grammar.
@@ -150,9 +139,5 @@ fn is_printable(line: &[u8]) -> bool
 pub fn read_statement(line: &[u8]) -> Option<Statement<'_>>
     ensures { Means result (said_of line.now) }
 {
-    if is_printable(line) {
-        words_statement(line)
-    } else {
-        None
-    }
+    words_statement(printable(line)?)
 }
