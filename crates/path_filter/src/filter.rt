@@ -6,18 +6,19 @@ ghost use Rattle.filter_text.specs.Reading.{Reads};
 ghost use Rattle.filter_text.specs.Size.{IsSmall};
 ghost use Rattle.filter_text.specs.View.{path_of};
 ghost use Rattle.filter_text.specs.declared.filter.Path.{out-Path};
+ghost use Rattle.filter_text.specs.Writing.{path_text};
 ghost use Rattle.path_filter.specs.Meaning.{Passes};
 
 use crate::copy::copy_path;
 use crate::found::known_in;
 use crate::lay_out::lay_out;
 use crate::plan::Stage;
-use filter_text::{FilterFault, Path, read_path};
+use filter_text::{FilterFault, Path, read_path, write_path};
 use sqlite_items::Items;
 use std::alloc::Global;
 use std::marker::Model;
 use voe_tree::Tree;
-use voe_values::NoMemory;
+use voe_values::{NoMemory, Text};
 
 /// A path from the document, which contracts see as its steps. It passes the trees in which it names a place.
 #[derive(Drop)]
@@ -57,6 +58,13 @@ impl Filter {
             }
             Err(fault) => Err(fault),
         }
+    }
+
+    /// The canonical text: no blanks but round `and` and `or`, and no parentheses that can be left out.
+    pub fn write(&self, alloc: Global) -> Result<Text, NoMemory>
+        ensures { IfOk result (λ text. text ≡ path_text (path_of self.now)) }
+    {
+        write_path(alloc, &self.path)
     }
 
     /// An equal filter.
