@@ -1,7 +1,7 @@
 -- Of an input one outcome is wanted.
-use Rattle.std.proofs.Common.{◌≡◌, ◌⊎◌, inl, inr, ℕ, Bool, true, false, List, Some, None, refl, sym, ◌∙◌, ap, subst, arith}
+use Rattle.std.proofs.Common.{◌≡◌, ◌⊎◌, inl, inr, ℕ, Bool, true, false, List, [], Result, Ok, Err, Some, None, refl, sym, ◌∙◌, ap, subst, arith}
 use Rattle.std.specs.declared.option.Option.{Option}
-use Rattle.std.specs.Prelude.{cond}
+use Rattle.std.specs.Prelude.{cond, IfSome}
 use Rattle.xml_lexer.specs.Characters.{Text}
 use Rattle.xml_lexer.specs.Token.{Token}
 use Rattle.xml_lexer.specs.Phases.{without_mark, IsTokensOf, RefusesText, RefusesToken, RefusesMany}
@@ -16,12 +16,26 @@ use Rattle.voe_tree.specs.declared.fault.TreeFault.TheVariants.{NotText, BadToke
 use Rattle.voe_tree.proofs.RootLaws.{same_root}
 use Rattle.voe_validity.specs.Judging.{number_of_fault}
 use Rattle.voevent_cli.specs.Documents.{Document, tree, no_tree, too_long, IsDocument, WantedOf, checked, place_of_fault, shown, wanted_of}
-use Rattle.voevent_cli.specs.Racks.{Disks}
+use Rattle.gate_journal.specs.Fault.{ComesFromDisk, IsMissing}
+use Rattle.gate_journal.specs.Format.{Stands}
+use Rattle.gate_journal.specs.Reading.{IsRefusal}
+use Rattle.gate_journal.specs.declared.fault.JournalFault.{JournalFault}
+use Rattle.gate_journal.specs.declared.fault.JournalFault.TheVariants as journal
+use Rattle.node_book.specs.Making.{IsFree, IsMakeRefusal}
+use Rattle.node_book.specs.declared.fault.BookFault.{BookFault}
+use Rattle.node_book.specs.declared.fault.BookFault.TheVariants as book
+use Rattle.node_notes.specs.declared.config.Config.{Config}
+use Rattle.voe_disk.specs.declared.disk.Disk.{Ghosts}
+use Rattle.voe_scenario.specs.Configs.{IsConfigOf}
+use Rattle.voe_scenario.specs.Lines.{Refusal as BadLine}
+use Rattle.voevent_cli.specs.Inits.{Inits, MakesOn, refusal_of_making}
+use Rattle.voevent_cli.specs.Racks.{Disks, TellsReal}
+use Rattle.voevent_cli.specs.declared.refusal.Refusal.{Refusal}
 use Rattle.voevent_cli.specs.Wanted.{Acts, Wants}
 use Rattle.voevent_cli.specs.declared.command.Command.{Command}
-use Rattle.voevent_cli.specs.declared.command.Command.TheVariants.{Net, Check, Show}
+use Rattle.voevent_cli.specs.declared.command.Command.TheVariants.{Net, Check, Show, Init}
 use Rattle.voevent_cli.specs.declared.outcome.Outcome.{Outcome}
-use Rattle.voevent_cli.specs.declared.refusal.Refusal.TheVariants.{Tree}
+use Rattle.voevent_cli.specs.declared.refusal.Refusal.TheVariants.{Tree, Scenario}
 use Rattle.voevent_cli.specs.Outcomes.{refused}
 
 abbrev number_of_rule : Rule → ℕ
@@ -165,12 +179,117 @@ same_document judged input too_long too_long one other = refl
 same_of : (judged : Element → Outcome) (input : Text) (a b : Outcome) → WantedOf judged input a → WantedOf judged input b → a ≡ b
 same_of judged input a b (one, is, e) (other, also, f) = e ∙ same_document judged input one other is also ∙ sym f
 
-same_acts : {T D : Type 0} (command : Command) (input : Text) (before now later : Disks T D) (a b : Outcome) → Acts command input before now a → Acts command input before later b → a ≡ b
-same_acts Net input before now later a b one other = one.0 ∙ sym other.0
-same_acts Check input before now later a b one other = same_of checked input a b one.0 other.0
-same_acts Show input before now later a b one other = same_of shown input a b one.0 other.0
+-- ---- disks
 
-pub wanted_once : {T D : Type 0} (command : Option Command) (input : List ℕ) (before now later : Disks T D) (a b : Outcome)
-    → Wants command input before now a → Wants command input before later b → a ≡ b
-wanted_once None input before now later a b one other = one.0 ∙ sym other.0
-wanted_once (Some command) input before now later a b one other = same_acts command input before now later a b one other
+-- a file stands for one list of payloads or is refused for one cause
+pub record FileLaws : Type 0 where
+  pub one_list : (file : List ℕ) (first second : List (List ℕ)) → Stands file first → Stands file second → first ≡ second
+  pub not_refused : (file : List ℕ) (payloads : List (List ℕ)) (fault : JournalFault) → Stands file payloads → IsRefusal fault (Some file) → ComesFromDisk fault
+  pub one_refusal : (file : List ℕ) (first second : JournalFault) → IsMissing first → IsMissing second → IsRefusal first (Some file) → IsRefusal second (Some file) → first ≡ second
+
+-- a file that is free is not refused
+free_not_refused : FileLaws → (file : List ℕ) (fault : BookFault) (refusal : Refusal) → IsFree file → refusal_of_making fault ≡ Some refusal → IsMakeRefusal fault (Some file) → ⊥
+free_not_refused laws file (book.NotJournal place) refusal (inl unmade) shown cause =
+    absurd (let wrong = laws.one_refusal file journal.Unmade (journal.NotJournal place) (λ x. x) (λ x. x) unmade cause in cc)
+free_not_refused laws file (book.NotJournal place) refusal (inr stands) shown cause = laws.not_refused file [] (journal.NotJournal place) stands cause
+free_not_refused laws file (book.Damaged place) refusal (inl unmade) shown cause =
+    absurd (let wrong = laws.one_refusal file journal.Unmade (journal.Damaged place) (λ x. x) (λ x. x) unmade cause in cc)
+free_not_refused laws file (book.Damaged place) refusal (inr stands) shown cause = laws.not_refused file [] (journal.Damaged place) stands cause
+free_not_refused laws file book.AlreadyMade refusal (inl unmade) shown (payloads, stands, some) = laws.not_refused file payloads journal.Unmade stands unmade
+free_not_refused laws file book.AlreadyMade refusal (inr none) shown (payloads, stands, some) = some (laws.one_list file payloads [] stands none)
+free_not_refused laws file book.Unmade refusal free shown cause = cause
+free_not_refused laws file book.Full refusal free shown cause = cause
+free_not_refused laws file book.DiskFault refusal free shown cause = absurd (none_is_not_some shown)
+free_not_refused laws file book.Stopped refusal free shown cause = absurd (none_is_not_some shown)
+free_not_refused laws file book.NoMemory refusal free shown cause = absurd (none_is_not_some shown)
+free_not_refused laws file (book.BadNote place) refusal free shown cause = cause
+
+-- what the journal says of a refusal: another file, or a damaged one
+as_journal : BookFault → JournalFault
+as_journal (book.NotJournal place) = journal.NotJournal place
+as_journal (book.Damaged place) = journal.Damaged place
+as_journal _ = journal.NoMemory
+
+refused_alike : FileLaws → (file : List ℕ) (one other : BookFault) (a b : Refusal) → refusal_of_making one ≡ Some a → refusal_of_making other ≡ Some b
+    → IsMakeRefusal one (Some file) → IsMakeRefusal other (Some file) → a ≡ b
+refused_alike laws file (book.NotJournal p) (book.NotJournal q) a b is also cause why =
+    let same = laws.one_refusal file (journal.NotJournal p) (journal.NotJournal q) (λ x. x) (λ x. x) cause why in
+    let places : p ≡ q = cc in
+    cc
+refused_alike laws file (book.NotJournal p) (book.Damaged q) a b is also cause why =
+    absurd (let wrong = laws.one_refusal file (journal.NotJournal p) (journal.Damaged q) (λ x. x) (λ x. x) cause why in cc)
+refused_alike laws file (book.Damaged p) (book.NotJournal q) a b is also cause why =
+    absurd (let wrong = laws.one_refusal file (journal.Damaged p) (journal.NotJournal q) (λ x. x) (λ x. x) cause why in cc)
+refused_alike laws file (book.Damaged p) (book.Damaged q) a b is also cause why =
+    let same = laws.one_refusal file (journal.Damaged p) (journal.Damaged q) (λ x. x) (λ x. x) cause why in
+    let places : p ≡ q = cc in
+    cc
+refused_alike laws file (book.NotJournal p) book.AlreadyMade a b is also cause (payloads, stands, some) = absurd (laws.not_refused file payloads (journal.NotJournal p) stands cause)
+refused_alike laws file (book.Damaged p) book.AlreadyMade a b is also cause (payloads, stands, some) = absurd (laws.not_refused file payloads (journal.Damaged p) stands cause)
+refused_alike laws file book.AlreadyMade (book.NotJournal q) a b is also (payloads, stands, some) why = absurd (laws.not_refused file payloads (journal.NotJournal q) stands why)
+refused_alike laws file book.AlreadyMade (book.Damaged q) a b is also (payloads, stands, some) why = absurd (laws.not_refused file payloads (journal.Damaged q) stands why)
+refused_alike laws file book.AlreadyMade book.AlreadyMade a b is also cause why = cc
+refused_alike laws file book.Unmade other a b is also cause why = absurd (none_is_not_some is)
+refused_alike laws file book.Full other a b is also cause why = absurd (none_is_not_some is)
+refused_alike laws file book.DiskFault other a b is also cause why = absurd (none_is_not_some is)
+refused_alike laws file book.Stopped other a b is also cause why = absurd (none_is_not_some is)
+refused_alike laws file book.NoMemory other a b is also cause why = absurd (none_is_not_some is)
+refused_alike laws file (book.BadNote place) other a b is also cause why = absurd (none_is_not_some is)
+refused_alike laws file one book.Unmade a b is also cause why = absurd (none_is_not_some also)
+refused_alike laws file one book.Full a b is also cause why = absurd (none_is_not_some also)
+refused_alike laws file one book.DiskFault a b is also cause why = absurd (none_is_not_some also)
+refused_alike laws file one book.Stopped a b is also cause why = absurd (none_is_not_some also)
+refused_alike laws file one book.NoMemory a b is also cause why = absurd (none_is_not_some also)
+refused_alike laws file one (book.BadNote place) a b is also cause why = absurd (none_is_not_some also)
+
+told_free : (reading : Option (List ℕ)) (file : List ℕ) → reading ≡ Some file → IfSome reading IsFree → IsFree file
+told_free reading file told free = subst (λ r. IfSome r IsFree) told free
+
+makes_once : {D : Type 0} (disk : Ghosts D) → FileLaws → (config : Config) (old one two : D) (file : List ℕ) (a b : Outcome) → disk.reads old ≡ Some file
+    → MakesOn disk config a old one → MakesOn disk config b old two → a ≡ b
+makes_once disk laws config old one two file a b told (inl (is, made)) (inl (also, again)) = is ∙ sym also
+makes_once disk laws config old one two file a b told (inl (is, made)) (inr (refusal, also, why)) =
+    absurd (free_not_refused laws file why.fault refusal (told_free (disk.reads old) file told made.was_free) why.shown (subst (IsMakeRefusal why.fault) told why.cause))
+makes_once disk laws config old one two file a b told (inr (refusal, also, why)) (inl (is, made)) =
+    absurd (free_not_refused laws file why.fault refusal (told_free (disk.reads old) file told made.was_free) why.shown (subst (IsMakeRefusal why.fault) told why.cause))
+makes_once disk laws config old one two file a b told (inr (refusal, is, cause)) (inr (other, also, why)) =
+    is ∙ ap refused (refused_alike laws file cause.fault why.fault refusal other cause.shown why.shown
+    (subst (IsMakeRefusal cause.fault) told cause.cause) (subst (IsMakeRefusal why.fault) told why.cause)) ∙ sym also
+
+-- a text is one configuration, or has one refused line
+abbrev OneConfig : Type 0
+OneConfig = (text : List ℕ) (a b : Result Config BadLine) → IsConfigOf text a → IsConfigOf text b → a ≡ b
+
+-- a refused line as what a text is
+abbrev refused_at : BadLine → Result Config BadLine
+refused_at line = Err line
+
+same_line : (a b : BadLine) → refused_at a ≡ refused_at b → refused (Scenario a.number a.line) ≡ refused (Scenario b.number b.line)
+same_line a b same = let lines : a ≡ b = cc in ap (λ (l : BadLine). refused (Scenario l.number l.line)) lines
+
+inits_once : {T D : Type 0} (disk : Ghosts D) → FileLaws → OneConfig → (input : List ℕ) (before now later : Disks T D) (a b : Outcome) → TellsReal disk before
+    → Inits disk input before now a → Inits disk input before later b → a ≡ b
+inits_once disk laws one_config input before now later a b told (inl (line, is, same, still)) (inl (other, also, too, stays)) =
+    same ∙ same_line line other (one_config input (Err line) (Err other) is also) ∙ sym too
+inits_once disk laws one_config input before now later a b told (inl (line, is, same, still)) (inr (config, also, on)) =
+    absurd (let wrong = one_config input (Err line) (Ok config) is also in cc)
+inits_once disk laws one_config input before now later a b told (inr (config, is, on)) (inl (line, also, same, still)) =
+    absurd (let wrong = one_config input (Ok config) (Err line) is also in cc)
+inits_once disk laws one_config input before now later a b told (inr (config, is, on)) (inr (other, also, again)) =
+    let same_config : config ≡ other = let whole = one_config input (Ok config) (Ok other) is also in cc in
+    let same_disk : on.old ≡ again.old = let both : Some on.old ≡ Some again.old = sym on.was ∙ again.was in cc in
+    let read = told on.old on.was in
+    makes_once disk laws config on.old on.new again.new read.0 a b read.1 on.changes
+    (subst (λ d. MakesOn disk config b d again.new) (sym same_disk) (subst (λ c. MakesOn disk c b again.old again.new) (sym same_config) again.changes))
+
+same_acts : {T D : Type 0} (disk : Ghosts D) → FileLaws → OneConfig → (command : Command) (input : Text) (before now later : Disks T D) (a b : Outcome) → TellsReal disk before
+    → Acts disk command input before now a → Acts disk command input before later b → a ≡ b
+same_acts disk laws one_config Net input before now later a b told one other = one.0 ∙ sym other.0
+same_acts disk laws one_config Check input before now later a b told one other = same_of checked input a b one.0 other.0
+same_acts disk laws one_config Show input before now later a b told one other = same_of shown input a b one.0 other.0
+same_acts disk laws one_config Init input before now later a b told one other = inits_once disk laws one_config input before now later a b told one other
+
+pub wanted_once : {T D : Type 0} (disk : Ghosts D) → FileLaws → OneConfig → (command : Option Command) (input : List ℕ) (before now later : Disks T D) (a b : Outcome)
+    → TellsReal disk before → Wants disk command input before now a → Wants disk command input before later b → a ≡ b
+wanted_once disk laws one_config None input before now later a b told one other = one.0 ∙ sym other.0
+wanted_once disk laws one_config (Some command) input before now later a b told one other = same_acts disk laws one_config command input before now later a b told one other

@@ -20,14 +20,23 @@ use Rattle.voevent_cli.specs.Documents.{Document, tree, no_tree, too_long, Wante
 use Rattle.voevent_cli.specs.Outcomes.{done, refused}
 use Rattle.voevent_cli.specs.Safety.{IsSafeThroughout}
 use Rattle.voevent_cli.specs.declared.command.Command.{Command}
-use Rattle.voevent_cli.specs.declared.command.Command.TheVariants.{Net, Check, Show}
+use Rattle.voevent_cli.specs.declared.command.Command.TheVariants.{Net, Check, Show, Init}
 use Rattle.voevent_cli.specs.declared.outcome.Status.{Status}
 use Rattle.voevent_cli.specs.declared.outcome.Status.TheVariants.{Done, Usage, Refused, ReadFault, WriteFault, DiskFault, NoMemory, JournalRefused}
 use Rattle.voevent_cli.specs.declared.outcome.Outcome.{Outcome}
-use Rattle.voevent_cli.specs.declared.refusal.Refusal.TheVariants.{TooLong, Tree, Scenario as BadLine}
+use Rattle.voevent_cli.specs.declared.refusal.Refusal.TheVariants.{TooLong, Tree, Validity, BadRole, NoOrigin, Scenario as BadLine, Foreign, Damaged, Made}
+use Rattle.voevent_cli.specs.Lines.{status_of_refusal}
+use Rattle.voevent_cli.specs.Inits.{Inits, MakesOn}
+use Rattle.node_notes.specs.declared.config.Config.{Config}
+use Rattle.voe_scenario.specs.Configs.{IsConfigOf, configured, with_config_line}
+use Rattle.voe_scenario.specs.ConfigRefusals.{RefusesConfigLine}
+use Rattle.voe_scenario.specs.Lines.{LinesRead, TextRead, Refusal as BadText}
+use Rattle.std.specs.Prelude.{MatchBool}
 use Rattle.voevent_cli.specs.Wanted.{Acts, Wants, code_of, command_of, final_state, limit_of, wanted_of_net, reported}
 use Rattle.voevent_cli.specs.Answers.{Moment, HasRead, Answered, IsSafeRun, Says, DoesAll}
-use Rattle.voevent_cli.specs.Prepared.{IsWantedAbove, Prepares}
+use Rattle.voevent_cli.specs.Prepared.{Acted, IsWantedAbove, Prepares}
+use Rattle.voevent_cli.specs.declared.prepare.Hindrance.{Hindrance}
+use Rattle.voevent_cli.specs.declared.prepare.Hindrance.TheVariants.{ReadFault as Unread, DiskFault as Failed, NoMemory as Starved}
 use Rattle.voevent_cli.specs.Racks.{Disks, AreSame}
 use Rattle.voevent_cli.specs.declared.refusal.Refusal.{Refusal as Reason}
 use Rattle.voe_disk.specs.declared.disk.Disk.{Ghosts}
@@ -81,23 +90,64 @@ too_long-alike judged one two outcome first second (tree root, is, same) = absur
 too_long-alike judged one two outcome first second (no_tree number place, is, same) = absurd (let short = is.0 in omega arith)
 too_long-alike judged one two outcome first second (too_long, is, same) = (too_long, second, same)
 
+-- ---- configurations
+
+abbrev refused_whole : Result (Option Config) BadText
+refused_whole = Err (record { number = 3; line = 0 })
+
+configured_above : (text : List ℕ) → 33554432 < length text → (read : Result (Option Config) BadText) → TextRead RefusesConfigLine with_config_line None text read
+    → read ≡ Err (record { number = 3; line = 0 })
+configured_above text above read reads =
+    let is_above = lt-ltb 33554432 (length text) above in
+    subst (λ b. MatchBool b (read ≡ Err (record { number = 3; line = 0 })) (LinesRead RefusesConfigLine with_config_line None 1 (lines_of text) read)) is_above reads
+
+-- a text above the limit is refused as a whole
+pub config_refused_above : (text : List ℕ) → 33554432 < length text → IsConfigOf text (Err (record { number = 3; line = 0 }))
+config_refused_above text above =
+    let is_above = lt-ltb 33554432 (length text) above in (
+      refused_whole,
+      subst (λ b. MatchBool b (refused_whole ≡ refused_whole) (LinesRead RefusesConfigLine with_config_line None 1 (lines_of text) refused_whole)) (sym is_above) refl,
+      refl,
+    )
+
+config_above : (one two : List ℕ) (outcome : Result Config BadText) → 33554432 < length one → 33554432 < length two → IsConfigOf one outcome → IsConfigOf two outcome
+config_above one two outcome first second (read, reads, is) =
+    let same = configured_above one first read reads in
+    let refused_so : outcome ≡ Err (record { number = 3; line = 0 }) = is ∙ ap configured same in
+    subst (IsConfigOf two) (sym refused_so) (config_refused_above two second)
+
+no_config_above : (text : List ℕ) (config : Config) → 33554432 < length text → IsConfigOf text (Ok config) → ⊥
+no_config_above text config above (read, reads, is) =
+    let same = configured_above text above read reads in
+    let wrong : Ok config ≡ Err (record { number = 3; line = 0 }) = is ∙ ap configured same in
+    cc
+
+-- the line of a text above the limit
+pub wanted_above_init : (command : Command) → command ≡ Init → IsWantedAbove command (refused (BadLine 3 0))
+wanted_above_init command is = subst (λ c. IsWantedAbove c (refused (BadLine 3 0))) (sym is) (record { number = 3; line = 0 }, refl, config_refused_above)
+
 -- nothing was done to the disks
 same_disks : {T D : Type 0} (rack : Disks T D) → AreSame rack rack
 same_disks rack = record { trials = λ k. refl; real = refl }
 
 -- above its limit a command's inputs are all alike
-acts_alike : {T D : Type 0} (command : Command) (one two : List ℕ) (before now : Disks T D) (outcome : Outcome)
-    → limit_of command < length one → limit_of command < length two → Acts command one before now outcome → Acts command two before now outcome
-acts_alike Net one two before now outcome first second acts = (acts.0 ∙ wanted_of_net-above one first ∙ sym (wanted_of_net-above two second), acts.1)
-acts_alike Check one two before now outcome first second acts = (too_long-alike checked one two outcome first second acts.0, acts.1)
-acts_alike Show one two before now outcome first second acts = (too_long-alike shown one two outcome first second acts.0, acts.1)
+acts_alike : {T D : Type 0} (disk : Ghosts D) (command : Command) (one two : List ℕ) (before now : Disks T D) (outcome : Outcome)
+    → limit_of command < length one → limit_of command < length two → Acts disk command one before now outcome → Acts disk command two before now outcome
+acts_alike disk Net one two before now outcome first second acts = (acts.0 ∙ wanted_of_net-above one first ∙ sym (wanted_of_net-above two second), acts.1)
+acts_alike disk Check one two before now outcome first second acts = (too_long-alike checked one two outcome first second acts.0, acts.1)
+acts_alike disk Show one two before now outcome first second acts = (too_long-alike shown one two outcome first second acts.0, acts.1)
+acts_alike disk Init one two before now outcome first second (inl (line, is, same, still)) =
+    inl (line, config_above one two (Err line) first second is, same, still)
+acts_alike disk Init one two before now outcome first second (inr (config, is, on)) =
+    absurd (no_config_above one config first is)
 
 -- and nothing is done to the disks
-acts_above : {T D : Type 0} (command : Command) (input : List ℕ) (rack : Disks T D) (outcome : Outcome)
-    → limit_of command < length input → IsWantedAbove command outcome → Acts command input rack rack outcome
-acts_above Net input rack outcome above wanted = (wanted input above, same_disks rack)
-acts_above Check input rack outcome above wanted = (wanted input above, same_disks rack)
-acts_above Show input rack outcome above wanted = (wanted input above, same_disks rack)
+acts_above : {T D : Type 0} (disk : Ghosts D) (command : Command) (input : List ℕ) (rack : Disks T D) (outcome : Outcome)
+    → limit_of command < length input → IsWantedAbove command outcome → Acts disk command input rack rack outcome
+acts_above disk Net input rack outcome above wanted = (wanted input above, same_disks rack)
+acts_above disk Check input rack outcome above wanted = (wanted input above, same_disks rack)
+acts_above disk Show input rack outcome above wanted = (wanted input above, same_disks rack)
+acts_above disk Init input rack outcome above (line, is, wanted) = inl (line, wanted input above, is, same_disks rack)
 
 -- an input above a command's limit was taken
 pub prepared_above : {T D : Type 0} (disk : Ghosts D) (words : List (List ℕ)) (command : Command) (limit : ℕ) (left left_now : Option (List ℕ)) (faults faults_now : ℕ)
@@ -106,7 +156,7 @@ pub prepared_above : {T D : Type 0} (disk : Ghosts D) (words : List (List ℕ)) 
 prepared_above disk words command limit left left_now faults faults_now rack refusal outcome is limit_is outcome_is wanted reads =
     let above : limit_of command < length reads.0 = rw (← limit_is) reads.2 in
     let most : length reads.0 ≤ limit_of command + BUFFER = rw (← limit_is) reads.3 in
-    rw is (reads.0, (reads.1, most), inr above, rw outcome_is (acts_above command reads.0 rack (refused refusal) above wanted))
+    rw is (reads.0, (reads.1, most), inr above, rw outcome_is (acts_above disk command reads.0 rack (refused refusal) above wanted))
 
 -- an outcome is wanted with one of four statuses
 abbrev pub IsAnswer : Status → Type 0
@@ -153,15 +203,32 @@ document_answers judged answers too_long = tt
 of_answers : (judged : Element → Outcome) → ((root : Element) → IsAnswer (judged root).status) → (input : List ℕ) (outcome : Outcome) → WantedOf judged input outcome → IsAnswer outcome.status
 of_answers judged answers input outcome (document, is, same) = subst (λ (o : Outcome). IsAnswer o.status) (sym same) (document_answers judged answers document)
 
-acts_answers : {T D : Type 0} (command : Command) (input : List ℕ) (before now : Disks T D) (outcome : Outcome) → Acts command input before now outcome → IsAnswer outcome.status
-unfolding wanted_of_net
-acts_answers Net input before now outcome acts = subst (λ (o : Outcome). IsAnswer o.status) (sym acts.0) (reported_answers (scenario_of input))
-acts_answers Check input before now outcome acts = of_answers checked (λ root. checked_answers (least_broken_row root) root) input outcome acts.0
-acts_answers Show input before now outcome acts = of_answers shown root_answers input outcome acts.0
+refusal_answers : (refusal : Reason) → IsAnswer (status_of_refusal refusal)
+refusal_answers TooLong = tt
+refusal_answers (Tree number place) = tt
+refusal_answers (Validity number) = tt
+refusal_answers BadRole = tt
+refusal_answers NoOrigin = tt
+refusal_answers (BadLine number line) = tt
+refusal_answers (Foreign place) = tt
+refusal_answers (Damaged place) = tt
+refusal_answers Made = tt
 
-pub wants_answers : {T D : Type 0} (command : Option Command) (input : List ℕ) (before now : Disks T D) (outcome : Outcome) → Wants command input before now outcome → IsAnswer outcome.status
-wants_answers None input before now outcome wants = subst (λ (o : Outcome). IsAnswer o.status) (sym wants.0) tt
-wants_answers (Some command) input before now outcome wants = acts_answers command input before now outcome wants
+makes_answers : {D : Type 0} (disk : Ghosts D) (config : Config) (outcome : Outcome) (old new : D) → MakesOn disk config outcome old new → IsAnswer outcome.status
+makes_answers disk config outcome old new (inl (is, made)) = subst (λ (o : Outcome). IsAnswer o.status) (sym is) tt
+makes_answers disk config outcome old new (inr (refusal, is, cause)) = subst (λ (o : Outcome). IsAnswer o.status) (sym is) (refusal_answers refusal)
+
+acts_answers : {T D : Type 0} (disk : Ghosts D) (command : Command) (input : List ℕ) (before now : Disks T D) (outcome : Outcome) → Acts disk command input before now outcome → IsAnswer outcome.status
+unfolding wanted_of_net
+acts_answers disk Net input before now outcome acts = subst (λ (o : Outcome). IsAnswer o.status) (sym acts.0) (reported_answers (scenario_of input))
+acts_answers disk Check input before now outcome acts = of_answers checked (λ root. checked_answers (least_broken_row root) root) input outcome acts.0
+acts_answers disk Show input before now outcome acts = of_answers shown root_answers input outcome acts.0
+acts_answers disk Init input before now outcome (inl (line, is, same, still)) = subst (λ (o : Outcome). IsAnswer o.status) (sym same) tt
+acts_answers disk Init input before now outcome (inr (config, is, on)) = makes_answers disk config outcome on.old on.new on.changes
+
+pub wants_answers : {T D : Type 0} (disk : Ghosts D) (command : Option Command) (input : List ℕ) (before now : Disks T D) (outcome : Outcome) → Wants disk command input before now outcome → IsAnswer outcome.status
+wants_answers disk None input before now outcome wants = subst (λ (o : Outcome). IsAnswer o.status) (sym wants.0) tt
+wants_answers disk (Some command) input before now outcome wants = acts_answers disk command input before now outcome wants
 
 -- such a status is no fault
 pub answer_code : (status : Status) → IsAnswer status → ((code_of status == 4) ≡ false) × ((code_of status == 5) ≡ false)
@@ -176,7 +243,7 @@ answer_code NoMemory answer = absurd answer
 
 -- the wanted outcome was written whole
 pub written : {T D : Type 0} (disk : Ghosts D) (words : List (List ℕ)) (taken : List ℕ) (before now : Moment T D) (status : Status) → IsAnswer status
-    → Answered words taken before now status → IsSafeRun (command_of words) taken → Says disk words taken before now status
+    → Answered disk words taken before now status → IsSafeRun (command_of words) taken → Says disk words taken before now status
 written disk words taken before now Done answer answered sound = (answered, sound)
 written disk words taken before now Usage answer answered sound = answered
 written disk words taken before now Refused answer answered sound = answered
@@ -187,27 +254,27 @@ written disk words taken before now DiskFault answer answered sound = absurd ans
 written disk words taken before now NoMemory answer answered sound = absurd answer
 
 -- what was taken is the whole input, or both are above the limit
-wants_taken : {T D : Type 0} (command : Option Command) (taken input : List ℕ) (left : Option (List ℕ)) (before now : Disks T D) (outcome : Outcome)
-    → HasRead command taken left → Gave taken (Some input) left → Wants command taken before now outcome → Wants command input before now outcome
-wants_taken None taken input left before now outcome read gave wants = wants
-wants_taken (Some command) taken input None before now outcome read gave wants = absurd (let wrong : Some input ≡ None = gave in cc)
-wants_taken (Some command) taken input (Some rest) before now outcome (inl ended) gave wants =
+wants_taken : {T D : Type 0} (disk : Ghosts D) (command : Option Command) (taken input : List ℕ) (left : Option (List ℕ)) (before now : Disks T D) (outcome : Outcome)
+    → HasRead command taken left → Gave taken (Some input) left → Wants disk command taken before now outcome → Wants disk command input before now outcome
+wants_taken disk None taken input left before now outcome read gave wants = wants
+wants_taken disk (Some command) taken input None before now outcome read gave wants = absurd (let wrong : Some input ≡ None = gave in cc)
+wants_taken disk (Some command) taken input (Some rest) before now outcome (inl ended) gave wants =
     let whole : Some input ≡ Some (taken ++ rest) = gave in
     let none : rest ≡ [] = ended in
     let same : input ≡ taken ++ rest = cc in
     let all : taken ≡ input = sym (same ∙ ap (λ r. taken ++ r) none ∙ append-nil taken) in
-    subst (λ bytes. Acts command bytes before now outcome) all wants
-wants_taken (Some command) taken input (Some rest) before now outcome (inr above) gave wants =
+    subst (λ bytes. Acts disk command bytes before now outcome) all wants
+wants_taken disk (Some command) taken input (Some rest) before now outcome (inr above) gave wants =
     let whole : Some input ≡ Some (taken ++ rest) = gave in
     let same : input ≡ taken ++ rest = cc in
     let longer : limit_of command < length input = rw same (simp length-append (omega arith)) in
-    acts_alike command taken input before now outcome above longer wants
+    acts_alike disk command taken input before now outcome above longer wants
 
 all_done : {T D : Type 0} (disk : Ghosts D) (words : List (List ℕ)) (taken input : List ℕ) (before now : Moment T D) (status : Status) → before.left ≡ Some input
-    → Gave taken before.left now.left → Answered words taken before now status → DoesAll disk words input before now (code_of status)
+    → Gave taken before.left now.left → Answered disk words taken before now status → DoesAll disk words input before now (code_of status)
 all_done disk words taken input before now status told gave answered = inl (record {
   outcome = answered.outcome;
-  wanted = wants_taken (command_of words) taken input now.left before.rack now.rack answered.outcome answered.read (rw told at gave) answered.wanted;
+  wanted = wants_taken disk (command_of words) taken input now.left before.rack now.rack answered.outcome answered.read (rw told at gave) answered.wanted;
   wanted_code = ap code_of (sym answered.wanted_status);
   output = answered.output;
 })
@@ -223,3 +290,18 @@ does_all disk words taken input before now ReadFault told gave says = inr (inl (
 does_all disk words taken input before now WriteFault told gave says = inr (inr (inl (refl, says.1)))
 does_all disk words taken input before now DiskFault told gave says = inr (inr (inr (inl (refl, says.2))))
 does_all disk words taken input before now NoMemory told gave says = inr (inr (inr (inr refl)))
+
+-- what a command did with its whole input is what was prepared
+pub prepared_whole : {T D : Type 0} (disk : Ghosts D) (words : List (List ℕ)) (command : Command) (limit : ℕ) (left left_now : Option (List ℕ)) (faults faults_now : ℕ)
+    (before now : Disks T D) (input : List ℕ) (result : Result Outcome Hindrance) → command_of words ≡ Some command → limit ≡ limit_of command
+    → Reads limit left left_now (Ok input) → Acted disk command input before now result → Prepares disk words left left_now faults faults_now before now result
+prepared_whole disk words command limit left left_now faults faults_now before now input (Ok outcome) is limit_is reads acted =
+    let few : length input ≤ limit_of command + BUFFER = rw (← limit_is) (let short = reads.2 in omega arith) in
+    rw is (input, (reads.0, few), inl reads.1, acted)
+prepared_whole disk words command limit left left_now faults faults_now before now input (Err Unread) is limit_is reads acted = absurd acted
+prepared_whole disk words command limit left left_now faults faults_now before now input (Err Failed) is limit_is reads acted =
+    let few : length input ≤ limit_of command + BUFFER = rw (← limit_is) (let short = reads.2 in omega arith) in
+    rw is (input, (reads.0, few), inl reads.1, acted)
+prepared_whole disk words command limit left left_now faults faults_now before now input (Err Starved) is limit_is reads acted =
+    let few : length input ≤ limit_of command + BUFFER = rw (← limit_is) (let short = reads.2 in omega arith) in
+    rw is (input, (reads.0, few))

@@ -9,7 +9,7 @@ use Rattle.voe_outside.specs.declared.whole.TheConstants.{BUFFER}
 use Rattle.voe_scenario.specs.Scenarios.{scenario_of}
 use Rattle.voevent_cli.specs.Racks.{Disks, AreSame, RealRose}
 use Rattle.voevent_cli.specs.declared.command.Command.{Command}
-use Rattle.voevent_cli.specs.declared.command.Command.TheVariants.{Net, Check, Show}
+use Rattle.voevent_cli.specs.declared.command.Command.TheVariants.{Net, Check, Show, Init}
 use Rattle.voevent_cli.specs.declared.outcome.Outcome.{Outcome}
 use Rattle.voevent_cli.specs.declared.outcome.Status.{Status}
 use Rattle.voevent_cli.specs.declared.outcome.Status.TheVariants.{Done, Usage, Refused, ReadFault, WriteFault, DiskFault, NoMemory, JournalRefused}
@@ -45,18 +45,18 @@ IsWithin None taken = ⊥
 IsWithin (Some command) taken = length taken ≤ limit_of command
 
 -- the outcome is a wanted one of this status, and its bytes stand behind what the sink held
-pub record Answered {T D : Type 0} (words : List (List ℕ)) (taken : List ℕ) (before now : Moment T D) (status : Status) : Type 0 where
+pub record Answered {T D : Type 0} (disk : Ghosts D) (words : List (List ℕ)) (taken : List ℕ) (before now : Moment T D) (status : Status) : Type 0 where
   pub read : HasRead (command_of words) taken now.left
   pub outcome : Outcome
-  pub wanted : Wants (command_of words) taken before.rack now.rack outcome
+  pub wanted : Wants disk (command_of words) taken before.rack now.rack outcome
   pub wanted_status : outcome.status ≡ status
   pub output : now.held ≡ append_known before.held outcome.output
 
 -- a front of the wanted bytes stands behind what the sink held
-pub record CutShort {T D : Type 0} (words : List (List ℕ)) (taken : List ℕ) (before now : Moment T D) : Type 0 where
+pub record CutShort {T D : Type 0} (disk : Ghosts D) (words : List (List ℕ)) (taken : List ℕ) (before now : Moment T D) : Type 0 where
   pub read : HasRead (command_of words) taken now.left
   pub outcome : Outcome
-  pub wanted : Wants (command_of words) taken before.rack now.rack outcome
+  pub wanted : Wants disk (command_of words) taken before.rack now.rack outcome
   pub count : ℕ
   pub part : count < length outcome.output
   pub output : now.held ≡ append_known before.held (take count outcome.output)
@@ -66,17 +66,18 @@ abbrev pub IsSafeRun : Option Command → List ℕ → Type 0
 IsSafeRun (Some Net) taken = IsSafeThroughout (scenario_of taken)
 IsSafeRun (Some Check) taken = Unit {0}
 IsSafeRun (Some Show) taken = Unit {0}
+IsSafeRun (Some Init) taken = Unit {0}
 IsSafeRun None taken = Unit {0}
 
 -- what each status says, where these bytes were taken
 abbrev pub Says : {T D : Type 0} → Ghosts D → List (List ℕ) → List ℕ → Moment T D → Moment T D → Status → Type 0
-Says disk words taken before now Done = Answered words taken before now Done × IsSafeRun (command_of words) taken
-Says disk words taken before now Usage = Answered words taken before now Usage
-Says disk words taken before now Refused = Answered words taken before now Refused
-Says disk words taken before now JournalRefused = Answered words taken before now JournalRefused
+Says disk words taken before now Done = Answered disk words taken before now Done × IsSafeRun (command_of words) taken
+Says disk words taken before now Usage = Answered disk words taken before now Usage
+Says disk words taken before now Refused = Answered disk words taken before now Refused
+Says disk words taken before now JournalRefused = Answered disk words taken before now JournalRefused
 Says disk words taken before now ReadFault =
     IsWithin (command_of words) taken × (now.held ≡ before.held) × Rose before.read_faults now.read_faults × AreSame before.rack now.rack
-Says disk words taken before now WriteFault = CutShort words taken before now × Rose before.write_faults now.write_faults
+Says disk words taken before now WriteFault = CutShort disk words taken before now × Rose before.write_faults now.write_faults
 Says disk words taken before now DiskFault =
     HasRead (command_of words) taken now.left × (now.held ≡ before.held) × RealRose disk before.rack now.rack
 Says disk words taken before now NoMemory = now.held ≡ before.held
@@ -93,16 +94,16 @@ abbrev pub Answers : {T D : Type 0} → Ghosts D → List (List ℕ) → Moment 
 Answers disk words before now code = (status : Status) × (code ≡ code_of status) × Ends disk words before now status
 
 -- what is wanted for this input was done
-pub record IsDone {T D : Type 0} (words : List (List ℕ)) (input : List ℕ) (before now : Moment T D) (code : ℕ) : Type 0 where
+pub record IsDone {T D : Type 0} (disk : Ghosts D) (words : List (List ℕ)) (input : List ℕ) (before now : Moment T D) (code : ℕ) : Type 0 where
   pub outcome : Outcome
-  pub wanted : Wants (command_of words) input before.rack now.rack outcome
+  pub wanted : Wants disk (command_of words) input before.rack now.rack outcome
   pub wanted_code : code ≡ code_of outcome.status
   pub output : now.held ≡ append_known before.held outcome.output
 
 -- What is wanted for a whole input was done. Else a count of faults rose, and 4, 5 or 6 is answered for it, or 7 is.
 abbrev pub DoesAll : {T D : Type 0} → Ghosts D → List (List ℕ) → List ℕ → Moment T D → Moment T D → ℕ → Type 0
 DoesAll disk words input before now code =
-    IsDone words input before now code
+    IsDone disk words input before now code
     ⊎ (((code ≡ 4) × Rose before.read_faults now.read_faults)
     ⊎ (((code ≡ 5) × Rose before.write_faults now.write_faults)
     ⊎ (((code ≡ 6) × RealRose disk before.rack now.rack)

@@ -3,6 +3,7 @@ pub mod Racks
 pub mod Lines
 pub mod Outcomes
 pub mod Documents
+pub mod Inits
 pub mod Wanted
 pub mod Safety
 pub mod Answers

@@ -2,7 +2,9 @@
 use Rattle.std.specs.Prelude.{ℕ, ◌/◌, ◌%◌, List, [], ◌∷◌, ◌++◌, Some, None, codes}
 use Rattle.std.specs.Fmt.{decimal}
 use Rattle.voevent_cli.specs.declared.refusal.Refusal.{Refusal}
-use Rattle.voevent_cli.specs.declared.refusal.Refusal.TheVariants.{TooLong, Tree, Validity, BadRole, NoOrigin, Scenario}
+use Rattle.voevent_cli.specs.declared.refusal.Refusal.TheVariants.{TooLong, Tree, Validity, BadRole, NoOrigin, Scenario, Foreign, Damaged, Made}
+use Rattle.voevent_cli.specs.declared.outcome.Status.{Status}
+use Rattle.voevent_cli.specs.declared.outcome.Status.TheVariants.{Refused, JournalRefused}
 
 -- a number below a hundred, in two digits
 abbrev pub two_digits : ℕ → List ℕ
@@ -16,6 +18,9 @@ code_of_refusal (Validity number) = codes "V" ++ two_digits number
 code_of_refusal BadRole = codes "M2"
 code_of_refusal NoOrigin = codes "M3"
 code_of_refusal (Scenario number line) = codes "S0" ++ decimal number
+code_of_refusal (Foreign place) = codes "G2"
+code_of_refusal (Damaged place) = codes "G3"
+code_of_refusal Made = codes "G5"
 
 -- where, for the rules that have a byte or a token, or a line
 abbrev pub place_of_refusal : Refusal → List ℕ
@@ -26,6 +31,21 @@ place_of_refusal (Validity number) = []
 place_of_refusal BadRole = []
 place_of_refusal NoOrigin = []
 place_of_refusal (Scenario number line) = codes " line " ++ decimal line
+place_of_refusal (Foreign place) = codes " at " ++ decimal place
+place_of_refusal (Damaged place) = codes " at " ++ decimal place
+place_of_refusal Made = []
+
+-- how the program ends: the input is refused, or what a disk holds
+abbrev pub status_of_refusal : Refusal → Status
+status_of_refusal TooLong = Refused
+status_of_refusal (Tree number place) = Refused
+status_of_refusal (Validity number) = Refused
+status_of_refusal BadRole = Refused
+status_of_refusal NoOrigin = Refused
+status_of_refusal (Scenario number line) = Refused
+status_of_refusal (Foreign place) = JournalRefused
+status_of_refusal (Damaged place) = JournalRefused
+status_of_refusal Made = JournalRefused
 
 -- the line that says why an input is refused
 abbrev pub refusal_line : Refusal → List ℕ

@@ -8,10 +8,12 @@ use Rattle.voe_net.specs.Report.{report_of}
 use Rattle.voe_scenario.specs.Scenarios.{Refusal, scenario_of}
 use Rattle.voe_scenario.specs.declared.scenario.Scenario.{Scenario}
 use Rattle.voevent_cli.specs.Documents.{WantedOf, checked, max_document, shown}
+use Rattle.voe_disk.specs.declared.disk.Disk.{Ghosts}
+use Rattle.voevent_cli.specs.Inits.{Inits}
 use Rattle.voevent_cli.specs.Outcomes.{done, refused}
 use Rattle.voevent_cli.specs.Racks.{Disks, AreSame}
 use Rattle.voevent_cli.specs.declared.command.Command.{Command}
-use Rattle.voevent_cli.specs.declared.command.Command.TheVariants.{Net, Check, Show}
+use Rattle.voevent_cli.specs.declared.command.Command.TheVariants.{Net, Check, Show, Init}
 use Rattle.voevent_cli.specs.declared.outcome.Status.{Status}
 use Rattle.voevent_cli.specs.declared.outcome.Status.TheVariants.{Done, Usage, Refused, ReadFault, WriteFault, DiskFault, NoMemory, JournalRefused}
 use Rattle.voevent_cli.specs.declared.outcome.Outcome.{Outcome}
@@ -35,7 +37,8 @@ abbrev pub command_named : List ℕ → Option Command
 command_named word =
     cond (bytes_eq word (codes "net")) (Some Net)
     (cond (bytes_eq word (codes "check")) (Some Check)
-    (cond (bytes_eq word (codes "show")) (Some Show) None))
+    (cond (bytes_eq word (codes "show")) (Some Show)
+    (cond (bytes_eq word (codes "init")) (Some Init) None)))
 
 -- the command that the words are, if they are one
 abbrev pub command_of : List (List ℕ) → Option Command
@@ -47,6 +50,7 @@ abbrev pub limit_of : Command → ℕ
 limit_of Net = 33554432
 limit_of Check = max_document
 limit_of Show = max_document
+limit_of Init = 33554432
 
 -- ---- `net`
 
@@ -68,12 +72,13 @@ abbrev pub usage : Outcome
 usage = record { status = Usage; output = codes "refused usage\n" }
 
 -- the outcome that a command has for an input, and what it does to the disks
-abbrev pub Acts : {T D : Type 0} → Command → List ℕ → Disks T D → Disks T D → Outcome → Type 0
-Acts Net input before now outcome = (outcome ≡ wanted_of_net input) × AreSame before now
-Acts Check input before now outcome = WantedOf checked input outcome × AreSame before now
-Acts Show input before now outcome = WantedOf shown input outcome × AreSame before now
+abbrev pub Acts : {T D : Type 0} → Ghosts D → Command → List ℕ → Disks T D → Disks T D → Outcome → Type 0
+Acts disk Net input before now outcome = (outcome ≡ wanted_of_net input) × AreSame before now
+Acts disk Check input before now outcome = WantedOf checked input outcome × AreSame before now
+Acts disk Show input before now outcome = WantedOf shown input outcome × AreSame before now
+Acts disk Init input before now outcome = Inits disk input before now outcome
 
 -- what is wanted of a command line, by the command that it is, if it is one
-abbrev pub Wants : {T D : Type 0} → Option Command → List ℕ → Disks T D → Disks T D → Outcome → Type 0
-Wants None input before now outcome = (outcome ≡ usage) × AreSame before now
-Wants (Some command) input before now outcome = Acts command input before now outcome
+abbrev pub Wants : {T D : Type 0} → Ghosts D → Option Command → List ℕ → Disks T D → Disks T D → Outcome → Type 0
+Wants disk None input before now outcome = (outcome ≡ usage) × AreSame before now
+Wants disk (Some command) input before now outcome = Acts disk command input before now outcome

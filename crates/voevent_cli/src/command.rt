@@ -14,6 +14,8 @@ pub enum Command {
     Check,
     /// `show`: shows what a packet or a Transport message says.
     Show,
+    /// `init`: makes the journal of a node from its configuration.
+    Init,
 }
 
 impl Command {
@@ -35,6 +37,7 @@ impl Command {
             "net" => Some(Command::Net),
             "check" => Some(Command::Check),
             "show" => Some(Command::Show),
+            "init" => Some(Command::Init),
             _ => None,
         }
     }
@@ -44,7 +47,7 @@ impl Command {
         ensures { result ≡ limit_of self }
     {
         match self {
-            Command::Net => 33_554_432,
+            Command::Net | Command::Init => 33_554_432,
             Command::Check | Command::Show => 1_048_576,
         }
     }

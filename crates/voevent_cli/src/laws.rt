@@ -1,15 +1,20 @@
 //! Facts of the definitions, each told by a function that does nothing.
 
 ghost use Rattle.std.specs.Prelude.{◌≡◌, List, ℕ};
-ghost use Rattle.voevent_cli.specs.Racks.{Disks};
+ghost use Rattle.voevent_cli.specs.Racks.{Disks, TellsReal};
 ghost use Rattle.voevent_cli.specs.Wanted.{Wants, command_of};
 ghost use Rattle.voevent_cli.specs.declared.outcome.Outcome.{Outcome};
 
+use gate_journal::one_reading;
 use voe_disk::Rack;
+use voe_scenario::laws::texts_are_one_config;
 
-/// For all words, all inputs and all disks at most one outcome is wanted: the status and the bytes to write are
-/// determined.
+/// For all words and all inputs, and all disks of which the real one tells what it reads, at most one outcome is wanted:
+/// the status and the bytes to write are determined.
 pub fn outcomes_are_unique<R: Rack>()
-    ensures { (words : List (List ℕ)) (input : List ℕ) (before now later : Disks R.Trial R.Real) (one other : Outcome)
-        → Wants (command_of words) input before now one → Wants (command_of words) input before later other → one ≡ other }
-{}
+    ensures { (words : List (List ℕ)) (input : List ℕ) (before now later : Disks R.Trial R.Real) (one other : Outcome) → TellsReal R.Real.Disk before
+        → Wants R.Real.Disk (command_of words) input before now one → Wants R.Real.Disk (command_of words) input before later other → one ≡ other }
+{
+    one_reading();
+    texts_are_one_config();
+}

@@ -7,6 +7,7 @@
 mod check;
 mod command;
 mod document;
+mod init;
 pub mod laws;
 mod net;
 mod outcome;

@@ -9,6 +9,7 @@ ghost use Rattle.voevent_cli.specs.Wanted.{limit_of};
 
 use crate::check::answer_of_check;
 use crate::command::Command;
+use crate::init::answer_of_init;
 use crate::net::answer_of_net;
 use crate::outcome::{Outcome, Status};
 use crate::refusal::Refusal;
@@ -42,17 +43,18 @@ fn answer_of<R: Rack>(
     alloc: Global,
     command: Command,
     input: &[u8],
-    _rack: &mut R,
+    rack: &mut R,
 ) -> Result<Outcome, Hindrance>
     requires input { length input.now ≤ limit_of command }
-    requires whole { IsWhole (disks (λ k. R.trial _rack.old k) (R.real _rack.old)) }
-    ensures acted { Acted R.Real.Disk command input.now (disks (λ k. R.trial _rack.old k) (R.real _rack.old)) (disks (λ k. R.trial _rack.new k) (R.real _rack.new)) result }
-    ensures whole { IsWhole (disks (λ k. R.trial _rack.new k) (R.real _rack.new)) }
+    requires whole { IsWhole (disks (λ k. R.trial rack.old k) (R.real rack.old)) }
+    ensures acted { Acted R.Real.Disk command input.now (disks (λ k. R.trial rack.old k) (R.real rack.old)) (disks (λ k. R.trial rack.new k) (R.real rack.new)) result }
+    ensures whole { IsWhole (disks (λ k. R.trial rack.new k) (R.real rack.new)) }
 {
     match command {
         Command::Net => Ok(answer_of_net(alloc, input)?),
         Command::Check => Ok(answer_of_check(alloc, input)?),
         Command::Show => Ok(answer_of_show(alloc, input)?),
+        Command::Init => answer_of_init(alloc, input, rack),
     }
 }
 
@@ -62,6 +64,7 @@ fn refusal_above(command: Command) -> Refusal
 {
     match command {
         Command::Net => Refusal::Scenario { number: 3, line: 0 },
+        Command::Init => Refusal::Scenario { number: 3, line: 0 },
         Command::Check | Command::Show => Refusal::TooLong,
     }
 }

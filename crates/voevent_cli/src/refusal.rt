@@ -9,7 +9,7 @@ use crate::outcome::{Outcome, Status};
 use std::alloc::Global;
 use voe_values::{Bytes, NoMemory};
 
-/// Why an input is refused.
+/// Why an input, or what a disk holds, is refused.
 #[derive(Clone, Copy, Debug, PartialEq, Eq)]
 pub enum Refusal {
     /// F2: the input is longer than a document may be.
@@ -22,12 +22,18 @@ pub enum Refusal {
     BadRole,
     /// M3: the message names no origin.
     NoOrigin,
-    /// S01 to S06: a line of the scenario is refused.
+    /// S01 to S06: a line of the scenario, or of the configuration, is refused.
     Scenario { number: u8, line: u32 },
+    /// G2: the disk holds another file, which differs from a journal first at this byte.
+    Foreign { place: u64 },
+    /// G3: the disk holds a journal that is damaged behind the gate at this byte.
+    Damaged { place: u64 },
+    /// G5: the disk holds a journal.
+    Made,
 }
 
 impl Refusal {
-    ghost use Rattle.voevent_cli.specs.Lines.{code_of_refusal, place_of_refusal};
+    ghost use Rattle.voevent_cli.specs.Lines.{code_of_refusal, place_of_refusal, status_of_refusal};
 
     /// Adds the code of the rule that refuses.
     fn add_code(self, alloc: Global, out: &mut Bytes) -> Result<(), NoMemory>
@@ -49,6 +55,9 @@ impl Refusal {
                 out.extend(b"S0")?;
                 add_number(alloc, out, number as usize)
             }
+            Refusal::Foreign { .. } => out.extend(b"G2"),
+            Refusal::Damaged { .. } => out.extend(b"G3"),
+            Refusal::Made => out.extend(b"G5"),
         }
     }
 
@@ -68,11 +77,27 @@ impl Refusal {
                 out.extend(b" line ")?;
                 add_number(alloc, out, line as usize)
             }
+            Refusal::Foreign { place } | Refusal::Damaged { place } => {
+                out.extend(b" at ")?;
+                add_number(alloc, out, place as usize)
+            }
             _ => Ok(()),
         }
     }
 
-    /// The outcome of an input that is refused so: its one line.
+    /// How the program ends with it.
+    fn status(self) -> Status
+        ensures { result ≡ status_of_refusal self }
+    {
+        match self {
+            Refusal::Foreign { .. } | Refusal::Damaged { .. } | Refusal::Made => {
+                Status::JournalRefused
+            }
+            _ => Status::Refused,
+        }
+    }
+
+    /// The outcome of what is refused so: its one line.
     pub(crate) fn outcome(self, alloc: Global) -> Result<Outcome, NoMemory>
         ensures { IfOk result (λ outcome. outcome ≡ refused self) }
     {
@@ -82,7 +107,7 @@ impl Refusal {
         self.add_place(alloc, &mut output)?;
         output.extend(b"\n")?;
         Ok(Outcome {
-            status: Status::Refused,
+            status: self.status(),
             output,
         })
     }
