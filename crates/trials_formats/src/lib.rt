@@ -9,6 +9,8 @@ mod digest;
 #[cfg(test)]
 mod framing;
 #[cfg(test)]
+mod message;
+#[cfg(test)]
 mod packet;
 #[cfg(test)]
 mod time;

@@ -1,4 +1,4 @@
-//! Transport messages (VTP 2.0, Transport messages): what a tree says as one, and how one is written.
+//! The messages of the VOEvent Transport Protocol 2.0: what a tree says as one, and how one is written.
 //!
 //! A message is what one end tells the other beside packets: that it is there, that it asks who the other is or says
 //! who it is, and that a packet is accepted or refused. What a message means to an end is not known here.
@@ -10,6 +10,7 @@ mod message;
 mod read;
 mod role;
 mod show;
+mod texts;
 mod write;
 
 pub use fault::MessageFault;

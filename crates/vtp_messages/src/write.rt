@@ -157,9 +157,11 @@ fn are_plain_names(message: &Message)
     }
 }
 
-/// The text of a message (VTP 2.0, Transport messages), in UTF-8: the root is written in the namespace of VTP's Transport, and what
+/// The text of a message, in UTF-8: the root is written in the namespace of the transport's version 1.1 schema, and what
 /// it contains in none. It is too large exactly where it could not be read: above 1,048,576 bytes or 65,536 tokens. What
 /// is written spells a tree that says the message.
+///
+/// Its texts must be made of XML characters, as `has_xml_texts` tells.
 pub fn write_message(alloc: Global, message: &Message) -> Result<Bytes, WriteFault>
     requires { IsTrue (has_xml_texts message.now) }
     ensures text { MatchResult result (λ bytes. (bytes ≡ spelling message.now) × IsTrue (is_writable_message message.now)) (λ fault. RefusesWritten (message_tokens message.now) fault) }
