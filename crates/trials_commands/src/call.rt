@@ -1,7 +1,12 @@
 //! A call of the program.
 
+ghost use Rattle.std.specs.Prelude.{IfOk};
+ghost use Rattle.voevent_cli.specs.Racks.{IsWhole, disks};
+
+use std::alloc::Global;
 use std::process::Abort;
 use std::test::Fail;
+use voe_disk::{MemoryRack, Rack};
 use voe_outside::{MemorySink, MemorySource};
 use voe_values::{Bytes, NoMemory, Text};
 use voevent_cli::offline;
@@ -15,6 +20,14 @@ pub struct Call<'a> {
     pub piece: usize,
     pub read_fails: &'a [u8],
     pub write_fails: &'a [u8],
+}
+
+/// A rack none of whose disks is lent out.
+fn whole_rack(alloc: Global) -> Result<MemoryRack, NoMemory>
+    ensures { IfOk result (λ rack. IsWhole (disks (λ k. ⟦<MemoryRack as Rack>⟧.trial rack k) (⟦<MemoryRack as Rack>⟧.real rack))) }
+{
+    let rack = MemoryRack::new(alloc)?;
+    Ok(rack)
 }
 
 fn failed(_: NoMemory) -> Fail {
@@ -44,7 +57,8 @@ pub fn run(
         call.piece,
         Bytes::of(alloc, call.write_fails).map_err(failed)?,
     );
-    let answer = offline(alloc, words.as_slice(), &mut source, &mut sink);
+    let mut rack = whole_rack(alloc).map_err(failed)?;
+    let answer = offline(alloc, words.as_slice(), &mut source, &mut sink, &mut rack);
     assert_eq!(rt; answer, status, "status");
     assert!(rt; sink.held() == output.as_bytes());
     Ok(source)
