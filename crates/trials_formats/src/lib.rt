@@ -9,8 +9,6 @@ mod digest;
 #[cfg(test)]
 mod framing;
 #[cfg(test)]
-mod message;
-#[cfg(test)]
 mod packet;
 #[cfg(test)]
 mod time;

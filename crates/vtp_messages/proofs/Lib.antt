@@ -5,3 +5,4 @@ pub mod Finished
 pub mod Names
 pub mod Kept
 pub mod Said
+pub mod Printable

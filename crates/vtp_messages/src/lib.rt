@@ -6,6 +6,7 @@
 
 mod children;
 mod fault;
+pub mod laws;
 mod message;
 mod read;
 mod role;

@@ -15,9 +15,7 @@ impl Message {
     pub fn has_xml_texts(&self) -> bool
         ensures { result ≡ has_xml_texts self.now }
     {
-        is_xml_if(&self.stamp)
-            && are_xml_params(self.params.as_slice())
-            && is_xml_if(&self.result)
+        is_xml_if(&self.stamp) && are_xml_params(self.params.as_slice()) && is_xml_if(&self.result)
     }
 }
 
