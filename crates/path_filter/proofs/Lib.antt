@@ -16,3 +16,6 @@ pub mod HasLaws
 pub mod PrefixLaws
 pub mod GrowLaws
 pub mod CheckViews
+pub mod LinkBits
+pub mod LinkUnique
+pub mod LinkPasses

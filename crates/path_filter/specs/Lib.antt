@@ -10,3 +10,4 @@ pub mod Plan
 pub mod Marks
 pub mod Known
 pub mod Planned
+pub mod Links

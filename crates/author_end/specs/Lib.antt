@@ -1,0 +1,2 @@
+-- An author.
+pub mod Author

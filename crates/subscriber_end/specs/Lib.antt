@@ -1,0 +1,2 @@
+-- A subscriber.
+pub mod Subscriber
