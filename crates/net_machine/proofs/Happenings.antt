@@ -7,9 +7,9 @@ use Rattle.net_model.specs.declared.scenario.Inner.{Inner}
 use Rattle.net_model.specs.declared.state.State.{State}
 use Rattle.net_model.specs.Rules.{Rules}
 use Rattle.net_model.specs.Rounds.{drained}
-use Rattle.net_model.specs.Runs.{actor_of, after, beginning, happens, stopped}
+use Rattle.net_model.specs.Runs.{actor_of, after, beginning, happens, run, stopped}
 use Rattle.net_machine.proofs.Runs.{reached-on, run-append}
-use Rattle.net_machine.specs.Events.{AllDone, Done, HappensEither}
+use Rattle.net_machine.specs.Events.{AllDone, Done, HappensEither, OnTheWay, needs}
 use Rattle.net_machine.specs.Parts.{AreRight, Happened, IsSound, Leads, Moment, Rightness, configs_of, nothing, state_of}
 use Rattle.net_machine.specs.Stops.{IsCutShort}
 
@@ -74,6 +74,42 @@ done-stop is_right graph packets calls fill inner Tell old new sound done = reco
         )
 
 -- events one after another
-pub done-none : (is_right : Rightness) (graph : Graph) (packets : List (List ℕ)) (Tell : Type 0) (m : Moment) → IsSound is_right graph packets m
-    → AllDone is_right graph packets [] Tell m m
-done-none is_right graph packets Tell m sound = record { configs = refl; sound = sound; exact = λ tells rules right. refl }
+
+pub way-start : (is_right : Rightness) (graph : Graph) (packets : List (List ℕ)) (events : List Event) (Tell : Type 0) (m : Moment) → IsSound is_right graph packets m
+    → OnTheWay is_right graph packets events events Tell m m
+way-start is_right graph packets events Tell m sound = record { configs = refl; sound = sound; exact = λ tells rules right. refl }
+
+pub way-end : (is_right : Rightness) (graph : Graph) (packets : List (List ℕ)) (rest events : List Event) (Tell : Type 0) (old new : Moment) → rest ≡ []
+    → OnTheWay is_right graph packets rest events Tell old new → AllDone is_right graph packets events Tell old new
+way-end is_right graph packets rest events Tell old new none way = record {
+  configs = way.configs;
+  sound = way.sound;
+  exact = λ tells rules right.
+      ap (λ (left : List Event). run rules graph packets left (state_of new)) (sym none) ∙ way.exact tells rules right;
+}
+
+told-needs : (event : Event) (Tell : Type 0) → Tell → needs event Tell
+told-needs (Write author packet) Tell tells = tt
+told-needs (Send edge) Tell tells = tt
+told-needs (Down edge) Tell tells = tt
+told-needs (Up edge) Tell tells = tt
+told-needs (Cut edge) Tell tells = tt
+told-needs (Connect edge) Tell tells = tt
+told-needs (Crash node) Tell tells = tt
+told-needs (Reopen node) Tell tells = tt
+told-needs (Stop calls fill inner) Tell tells = tells
+told-needs Drain Tell tells = tt
+
+-- one event more
+pub way-more : (is_right : Rightness) (graph : Graph) (packets : List (List ℕ)) (rest left events : List Event) (event : Event) (First Tell : Type 0)
+    (first old new : Moment) → rest ≡ event ∷ left → (First → Tell) → OnTheWay is_right graph packets rest events First first old
+    → Done is_right graph packets event Tell old new → OnTheWay is_right graph packets left events First first new
+way-more is_right graph packets rest left events event First Tell first old new is tells way done = record {
+  configs = done.configs ∙ way.configs;
+  sound = done.sound;
+  exact = λ told rules right.
+      let right_here : AreRight is_right (configs_of old.slots) packets rules = subst (λ cs. AreRight is_right cs packets rules) (sym way.configs) right in
+      ap (λ (state : State). run rules graph packets left state) (done.exact (told-needs event Tell (tells told)) rules right_here)
+      ∙ ap (λ (them : List Event). run rules graph packets them (state_of old)) (sym is)
+      ∙ way.exact told rules right;
+}

@@ -5,6 +5,7 @@ pub mod Counts
 pub mod Owed
 pub mod Parts
 pub mod Index
+pub mod Machine
 pub mod Start
 pub mod AtEnds
 pub mod Steppers

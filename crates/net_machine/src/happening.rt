@@ -5,7 +5,7 @@ ghost use Rattle.net_model.specs.Draining.{IsProper};
 ghost use Rattle.net_machine.specs.AtEnds.{AllTell, counts_of};
 ghost use Rattle.net_machine.specs.Counts.{Caused};
 ghost use Rattle.net_machine.specs.Ends.{AllPackets};
-ghost use Rattle.net_machine.specs.Events.{Done};
+ghost use Rattle.net_machine.specs.Events.{AllDone, Done};
 ghost use Rattle.net_machine.specs.Index.{index_of};
 ghost use Rattle.net_machine.specs.Parts.{IsSound, moment_of, state_of};
 ghost use Rattle.net_machine.specs.Steppers.{Stepped, stepper};
@@ -83,4 +83,34 @@ pub fn happen<N: NetEnd>(
             Ok(())
         }
     }
+}
+
+/// What happens at all events, in order.
+pub fn happen_all<N: NetEnd>(
+    alloc: Global,
+    plan: &Plan<'_>,
+    parts: &mut Parts<N>,
+    events: &[Event],
+) -> Result<(), StepFault>
+    requires packets { AllPackets plan.now.packets.now }
+    requires index { plan.now.index ≡ index_of plan.now.graph }
+    requires proper { IsProper plan.now.graph }
+    requires nodes { length plan.now.graph.nodes < 2 ^ 8 }
+    requires edges { length plan.now.graph.edges < 2 ^ 16 }
+    requires sound { IsSound N.is_right plan.now.graph plan.now.packets.now (moment_of N.view parts.old) }
+    ensures done { OnOk result (AllDone N.is_right plan.now.graph plan.now.packets.now events.now (AllTell N.tells_crash parts.old.seats)
+        (moment_of N.view parts.old) (moment_of N.view parts.new)) }
+    ensures told { OnOk result (AllTell N.tells_crash parts.old.seats → AllTell N.tells_crash parts.new.seats) }
+    ensures faults { Caused (counts_of N.faults parts.old.seats) (counts_of N.faults parts.new.seats) result }
+{
+    for at in 0..events.len() {
+        let Some(event) = events.get(at) else {
+            break;
+        };
+        match happen(alloc, plan, parts, event) {
+            Ok(()) => {}
+            Err(fault) => return Err(fault),
+        }
+    }
+    Ok(())
 }
