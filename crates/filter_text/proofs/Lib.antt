@@ -10,3 +10,8 @@ pub mod Exclusion
 pub mod Written
 pub mod Pieces
 pub mod PieceTexts
+pub mod Normal
+pub mod Rederived
+pub mod PieceCuts
+pub mod Nesting
+pub mod ReadBack

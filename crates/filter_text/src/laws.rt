@@ -5,6 +5,7 @@ ghost use Rattle.filter_text.specs.Filter.{Path, Text};
 ghost use Rattle.filter_text.specs.Reading.{Reads};
 ghost use Rattle.filter_text.specs.Refusal.{Refuses};
 ghost use Rattle.filter_text.specs.Size.{IsSmall};
+ghost use Rattle.filter_text.specs.Writing.{ReadsBack};
 ghost use Rattle.filter_text.specs.declared.fault.FilterFault.{FilterFault};
 ghost use Rattle.filter_text.specs.declared.fault.FilterFault.TheVariants.{NoMemory};
 
@@ -26,4 +27,9 @@ pub fn refusals_are_unique()
 /// A filter that some text spells is small.
 pub fn filters_are_small()
     ensures { (s : Text) (f : Path) → Reads f s → IsSmall f }
+{}
+
+/// The canonical text of a filter that some text spells is read as that filter, where it has at most 1,024 bytes.
+pub fn written_filters_read_back()
+    ensures { (f : Path) → ReadsBack f }
 {}
