@@ -1,14 +1,13 @@
 -- What each filter that a text spells keeps to, so that its canonical text can be read.
-use Rattle.std.proofs.Common.{◌≡◌, ◌⊎◌, inl, inr, ℕ, Bool, true, false, cond, not, ◌==◌, ◌&&◌, ◌||◌, List, [], ◌∷◌, ◌++◌, Option, Some, None, refl, sym, ◌∙◌, ap, subst}
+use Rattle.std.proofs.Common.{◌≡◌, inl, inr, ℕ, Bool, true, false, cond, not, ◌==◌, ◌&&◌, ◌||◌, List, [], ◌∷◌, ◌++◌, Option, refl, subst}
 use Rattle.std.specs.List.{list_all, list_any}
 use Rattle.std.specs.Prelude.{codes}
-use Rattle.std.specs.Str.{chars, bytes_eq}
-use Rattle.xml_lexer.specs.Characters.{is_name, is_xml_character}
-use Rattle.xml_lexer.proofs.Runs.{both as both-true}
-use Rattle.filter_tokens.specs.Token.{Token, slash, double_slash, opening_bracket, closing_bracket, opening_parenthesis, closing_parenthesis, at_sign, star, equals, differs, name, literal, foreign, Placed, IsQuote, is_other_than, AreXml, IsSpelled, IsCut}
+use Rattle.std.specs.Str.{bytes_eq}
+use Rattle.xml_lexer.specs.Characters.{is_name}
+use Rattle.filter_tokens.specs.Token.{Token, closing_bracket, closing_parenthesis, name, literal, Placed, IsQuote, is_other_than, IsSpelled, IsCut}
 use Rattle.filter_text.specs.Filter.{Text, Axis, child, descendant, Part, element, attribute, Test, any, Comparison, Path, path, Steps, arrived, step, Condition, any_of, all_of, not_so, alone, compare, Conditions, no_more, more, Operand, found, local_name}
 use Rattle.filter_text.specs.Filter as filter
-use Rattle.filter_text.specs.Grammar.{Symbol, plain, not_function, local_name_function, and_word, or_word, joined, either, both, either_list, both_list, IsSeparator, IsTest, of_name, of_any, IsPath, from_document, from_element, IsStep, of_attribute, last, goes_on, AreBracketed, no_bracket, bracket, IsCondition, conjunct, or, IsConjunct, simple, and, IsSimple, negated, grouped, operand, compared, IsOperand, of_path, of_literal, of_function}
+use Rattle.filter_text.specs.Grammar.{Symbol, plain, not_function, local_name_function, and_word, or_word, joined, either_list, both_list, IsTest, of_name, of_any, IsPath, from_document, from_element, IsStep, of_attribute, last, goes_on, AreBracketed, no_bracket, bracket, IsCondition, conjunct, or, IsConjunct, simple, and, IsSimple, negated, grouped, operand, compared, IsOperand, of_path, of_literal, of_function}
 use Rattle.filter_text.specs.Reading.{next_token, is_opening, named_function, symbol_of, symbols_of}
 use Rattle.filter_text.specs.Writing.{quoted}
 

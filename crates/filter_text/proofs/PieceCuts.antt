@@ -1,6 +1,6 @@
 -- The canonical text of a good filter is cut into its symbols.
-use Rattle.std.proofs.Common.{◌≡◌, ◌≢◌, ◌⊎◌, inl, inr, ℕ, zero, suc, ◌+◌, ◌<◌, ◌≤◌, Bool, true, false, cond, not, ◌==◌, List, [], ◌∷◌, ◌++◌, length, Option, Some, None, refl, sym, ◌∙◌, ap, subst, append_assoc, append-nil, length-append, eq-eqb, arith}
-use Rattle.std.specs.Prelude.{codes, nat_lt, slice_index}
+use Rattle.std.proofs.Common.{◌≡◌, ◌≢◌, inl, inr, ℕ, ◌+◌, Bool, true, false, cond, not, ◌==◌, List, [], ◌∷◌, ◌++◌, length, Option, Some, None, refl, sym, ◌∙◌, ap, subst, append_assoc, length-append, eq-eqb, arith}
+use Rattle.std.specs.Prelude.{codes, nat_lt}
 use Rattle.std.specs.List.{list_all, prefix_len}
 use Rattle.std.specs.Str.{chars}
 use Rattle.std.proofs.lemmas.Bool.Decides.{nat_tests}
@@ -15,9 +15,8 @@ use Rattle.filter_text.specs.Filter.{Text, Axis, child, descendant, Part, elemen
 use Rattle.filter_text.specs.Filter as filter
 use Rattle.filter_text.specs.Grammar.{Symbol, plain, not_function, local_name_function, and_word, or_word}
 use Rattle.filter_text.specs.Reading.{next_token, is_opening, is_keyword, is_outside, first_outside, named_function, symbol_of, symbols_of, open_behind, first_too_deep}
-use Rattle.filter_text.specs.Writing.{quoted}
-use Rattle.filter_text.proofs.Pieces.{Piece, tight, word, symbol_in, symbols, token_of, spelled_of, piece_text, text_of, next_of, test_symbol, separator_symbol, comparison_symbol, separated, signed, path_pieces, steps_pieces, bracketed_pieces, condition_pieces, listed_pieces, others_pieces, operand_pieces}
-use Rattle.filter_text.proofs.Normal.{GoodLiteral, GoodTest, AreSome, AreSeveral, GoodPath, GoodSteps, EachGood, Good, Alternatives, Conjunctions, GoodOperand}
+use Rattle.filter_text.proofs.Pieces.{Piece, tight, word, symbol_in, symbols, token_of, spelled_of, text_of, next_of, test_symbol, comparison_symbol, separated, signed, path_pieces, steps_pieces, bracketed_pieces, condition_pieces, listed_pieces, others_pieces, operand_pieces}
+use Rattle.filter_text.proofs.Normal.{GoodLiteral, GoodTest, GoodPath, GoodSteps, EachGood, Good, Alternatives, Conjunctions, GoodOperand}
 
 -- ---- what may stand side by side
 

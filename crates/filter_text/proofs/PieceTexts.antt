@@ -1,11 +1,11 @@
 -- The pieces of a filter are its canonical text.
-use Rattle.std.proofs.Common.{◌≡◌, Bool, true, false, cond, List, [], ◌∷◌, ◌++◌, refl, sym, ◌∙◌, ap, append_assoc, append-nil}
+use Rattle.std.proofs.Common.{◌≡◌, Bool, true, false, cond, List, [], ◌∷◌, ◌++◌, refl, sym, ◌∙◌, ap, append_assoc}
 use Rattle.std.specs.Prelude.{codes}
 use Rattle.filter_tokens.specs.Token.{closing_bracket, closing_parenthesis}
 use Rattle.filter_text.specs.Filter.{Text, Axis, child, descendant, Part, element, attribute, Test, any, name, Comparison, equal, differs, Path, path, Steps, arrived, step, Condition, any_of, all_of, not_so, alone, compare, Conditions, no_more, more, Operand, found, literal, local_name}
 use Rattle.filter_text.specs.Grammar.{Symbol, plain, and_word, or_word}
 use Rattle.filter_text.specs.Writing.{separator, sign, test_text, comparison_text, path_text, steps_text, bracketed_text, condition_text, listed_text, others_text, operand_text}
-use Rattle.filter_text.proofs.Pieces.{Piece, tight, word, text_of, spelled_of, token_of, test_symbol, comparison_symbol, separated, signed, path_pieces, steps_pieces, bracketed_pieces, condition_pieces, listed_pieces, others_pieces, operand_pieces}
+use Rattle.filter_text.proofs.Pieces.{Piece, tight, text_of, spelled_of, token_of, test_symbol, comparison_symbol, separated, signed, path_pieces, steps_pieces, bracketed_pieces, condition_pieces, listed_pieces, others_pieces, operand_pieces}
 
 separated-text : (sep : Bool) (axis : Axis) (rest : List Piece) → text_of (separated sep axis rest) ≡ cond sep (separator axis) [] ++ text_of rest
 separated-text true child rest = refl

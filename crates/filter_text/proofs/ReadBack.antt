@@ -1,14 +1,13 @@
 -- The canonical text of a filter that some text spells is read as that filter.
-use Rattle.std.proofs.Common.{◌≡◌, ℕ, ◌+◌, ◌<◌, ◌≤◌, Bool, true, false, List, [], ◌∷◌, ◌++◌, length, Some, None, refl, sym, ◌∙◌, ap, subst, append-nil, length-append, arith}
-use Rattle.std.specs.Prelude.{codes}
+use Rattle.std.proofs.Common.{◌≡◌, ◌+◌, ◌<◌, ◌≤◌, true, false, List, [], length, refl, sym, ◌∙◌, ap, subst, append-nil, arith}
 use Rattle.filter_tokens.specs.Token.{IsCut}
-use Rattle.filter_text.specs.Filter.{Text, Axis, child, descendant, Path, path, Steps, arrived, step}
+use Rattle.filter_text.specs.Filter.{Text, child, descendant, Path, path, arrived, step}
 use Rattle.filter_text.specs.Grammar.{Symbol, IsPath}
 use Rattle.filter_text.specs.Reading.{symbols_of, at_document, Reads}
-use Rattle.filter_text.specs.Writing.{path_text, steps_text, ReadsBack}
-use Rattle.filter_text.proofs.Pieces.{symbols, text_of, path_pieces}
+use Rattle.filter_text.specs.Writing.{path_text, ReadsBack}
+use Rattle.filter_text.proofs.Pieces.{text_of, path_pieces}
 use Rattle.filter_text.proofs.PieceTexts.{path-written}
-use Rattle.filter_text.proofs.Normal.{GoodPath, StartsWell, cut-good, path-good}
+use Rattle.filter_text.proofs.Normal.{GoodPath, cut-good, path-good}
 use Rattle.filter_text.proofs.Rederived.{path-spells}
 use Rattle.filter_text.proofs.PieceCuts.{deeper, path-chain, pieces-cut}
 use Rattle.filter_text.proofs.Nesting.{nest_path, path-nests, path-put, fits-symbols}

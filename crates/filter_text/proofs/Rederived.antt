@@ -1,11 +1,11 @@
 -- The canonical text of a good filter is derived by the grammar, as that filter.
-use Rattle.std.proofs.Common.{◌≡◌, Bool, true, false, List, [], ◌∷◌, ◌++◌, refl, sym, ◌∙◌, ap, subst, append_assoc, append-nil}
-use Rattle.filter_tokens.specs.Token.{slash, double_slash, opening_bracket, closing_bracket, opening_parenthesis, closing_parenthesis, at_sign, star, equals, differs, name, literal}
+use Rattle.std.proofs.Common.{◌≡◌, true, false, List, [], ◌∷◌, ◌++◌, refl, sym, ◌∙◌, ap, subst, append_assoc}
+use Rattle.filter_tokens.specs.Token.{opening_bracket, closing_bracket, opening_parenthesis, closing_parenthesis, at_sign, literal}
 use Rattle.filter_text.specs.Filter.{Text, Axis, child, descendant, Part, element, attribute, Test, any, Comparison, equal, Path, path, Steps, arrived, step, Condition, any_of, all_of, not_so, alone, compare, Conditions, no_more, more, Operand, found, local_name}
 use Rattle.filter_text.specs.Filter as filter
 use Rattle.filter_text.specs.Grammar.{Symbol, plain, not_function, local_name_function, and_word, or_word, joined, either, both, either_list, both_list, IsSeparator, to_children, to_descendants, IsTest, of_name, of_any, IsComparison, is_equal, is_different, IsPath, from_document, from_element, IsStep, of_attribute, last, goes_on, AreBracketed, no_bracket, bracket, IsCondition, conjunct, or, IsConjunct, simple, and, IsSimple, negated, grouped, operand, compared, IsOperand, of_path, of_literal, of_function}
-use Rattle.filter_text.proofs.Pieces.{Piece, tight, word, symbols, test_symbol, separator_symbol, comparison_symbol, separated, signed, path_pieces, steps_pieces, bracketed_pieces, condition_pieces, listed_pieces, others_pieces, operand_pieces}
-use Rattle.filter_text.proofs.Normal.{GoodTest, NoAlternative, NoConjunction, AreSome, AreSeveral, StartsWell, GoodPath, GoodSteps, EachGood, Good, Alternatives, Conjunctions, GoodOperand}
+use Rattle.filter_text.proofs.Pieces.{Piece, tight, word, symbols, test_symbol, separator_symbol, comparison_symbol, path_pieces, steps_pieces, bracketed_pieces, condition_pieces, listed_pieces, operand_pieces}
+use Rattle.filter_text.proofs.Normal.{NoAlternative, NoConjunction, AreSeveral, GoodPath, GoodSteps, EachGood, Good, Alternatives, Conjunctions, GoodOperand}
 
 -- these pieces are symbols with the property, and those of the rest
 pub record Spells (P : List Symbol → Type 0) (ps rest : List Piece) : Type 0 where

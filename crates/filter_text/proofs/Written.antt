@@ -1,16 +1,15 @@
 -- The canonical text, step by step.
-use Rattle.std.proofs.Common.{◌≡◌, ℕ, zero, suc, ◌+◌, ◌*◌, ◌<◌, ◌≤◌, Bool, true, false, cond, List, [], ◌∷◌, ◌++◌, length, drop, map, refl, sym, ◌∙◌, ap, subst, append_assoc, append-nil, add-one, drop-cons, get_or, Result, Ok, Err, arith}
+use Rattle.std.proofs.Common.{◌≡◌, ℕ, zero, suc, ◌+◌, ◌<◌, ◌≤◌, Bool, true, false, cond, List, [], ◌∷◌, ◌++◌, length, drop, map, refl, sym, ◌∙◌, ap, subst, append_assoc, append-nil, add-one, drop-cons, get_or, Result, Ok, Err, arith}
 use Rattle.std.specs.Prelude.{codes, nat_eq, OnOk}
 use Rattle.std.proofs.lemmas.Bool.Decides.{nat_tests}
-use Rattle.filter_text.specs.Filter.{Text, Steps, arrived, step, Conditions, no_more, more}
-use Rattle.filter_text.specs.View.{axis_of, part_of, test_of, conditions_of, condition_of, front_of, steps_of, path_of, operand_of}
+use Rattle.filter_text.specs.Filter.{Text, Steps, arrived, step, Conditions, no_more}
+use Rattle.filter_text.specs.View.{axis_of, part_of, test_of, conditions_of, condition_of, front_of, steps_of}
 use Rattle.filter_text.specs.MachineView.{conditions_view}
-use Rattle.filter_text.specs.Size.{size_of_path, size_of_steps, size_of_conditions, size_of_condition}
-use Rattle.filter_text.specs.Writing.{separator, sign, test_text, steps_text, bracketed_text, condition_text, listed_text, others_text, path_text}
+use Rattle.filter_text.specs.Size.{size_of_steps, size_of_conditions, size_of_condition}
+use Rattle.filter_text.specs.Writing.{separator, sign, test_text, steps_text, bracketed_text, condition_text, listed_text, others_text}
 use Rattle.filter_text.specs.declared.filter.Condition.{Condition as CodeCondition}
-use Rattle.filter_text.specs.declared.filter.Path.{Path as CodePath, out-Path}
 use Rattle.filter_text.specs.declared.filter.Step.{Step as CodeStep}
-use Rattle.filter_text.proofs.Views.{front-out, path-out}
+use Rattle.filter_text.proofs.Views.{front-out}
 
 -- ---- sizes
 

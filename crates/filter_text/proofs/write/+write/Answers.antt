@@ -1,11 +1,10 @@
-use Rattle.std.proofs.Common.{◌≡◌, ◌++◌, Bool, true, false, cond, List, refl, sym, ◌∙◌, ap, append_assoc, append-nil, arith, rules}
-use Rattle.std.specs.Prelude.{OnOk, codes}
+use Rattle.std.proofs.Common.{◌≡◌, ◌++◌, true, false, sym, ◌∙◌, ap, arith}
+use Rattle.std.specs.Prelude.{codes}
 use Rattle.filter_text.specs.Filter.{arrived}
-use Rattle.filter_text.specs.View.{axis_of, comparison_of, condition_of, conditions_of, front_of, operand_of, steps_of}
+use Rattle.filter_text.specs.View.{axis_of, comparison_of, condition_of, front_of, operand_of, steps_of}
 use Rattle.filter_text.specs.MachineView.{conditions_view}
 use Rattle.filter_text.specs.Size.{size_of_path, size_of_steps}
 use Rattle.filter_text.specs.Writing.{comparison_text, condition_text, listed_text, operand_text, separator, steps_text}
-use Rattle.filter_text.specs.declared.filter.Path.{out-Path}
 use Rattle.filter_text.proofs.Views.{any_of-out, not-out, compare-out, local_name-out, path-out}
 use Rattle.filter_text.proofs.Written.{condition-size, step-size, steps-more, ok-is, three-parts, with-separator, without-separator}
 use Rattle.filter_text.proofs.write.+write.Goals.{write_steps-then-separated+in_ok-write_separator, write_steps-else-separated}
