@@ -31,9 +31,16 @@ use Rattle.voe_scenario.specs.Lines.{Refusal as BadLine}
 use Rattle.voevent_cli.specs.Inits.{Inits, MakesOn, refusal_of_making}
 use Rattle.voevent_cli.specs.Racks.{Disks, TellsReal}
 use Rattle.voevent_cli.specs.declared.refusal.Refusal.{Refusal}
-use Rattle.voevent_cli.specs.Wanted.{Acts, Wants}
+use Rattle.filter_text.specs.Filter.{Path}
+use Rattle.filter_text.specs.Reading.{Reads}
+use Rattle.filter_text.specs.Refusal.{Refuses}
+use Rattle.filter_text.specs.declared.fault.FilterFault.{FilterFault}
+use Rattle.filter_text.specs.declared.fault.FilterFault.TheVariants.{NoMemory as NoRoom}
+use Rattle.path_filter.specs.Meaning.{Passes}
+use Rattle.voevent_cli.specs.Matches.{IsMatched, IsRefusedFilter, Matches, refusal_of_filter}
+use Rattle.voevent_cli.specs.Wanted.{Acts, ActsAs, Wants, command_of, filter_of}
 use Rattle.voevent_cli.specs.declared.command.Command.{Command}
-use Rattle.voevent_cli.specs.declared.command.Command.TheVariants.{Net, Check, Show, Init}
+use Rattle.voevent_cli.specs.declared.command.Command.TheVariants.{Net, Check, Show, Match, Init}
 use Rattle.voevent_cli.specs.declared.outcome.Outcome.{Outcome}
 use Rattle.voevent_cli.specs.declared.refusal.Refusal.TheVariants.{Tree, Scenario}
 use Rattle.voevent_cli.specs.Outcomes.{refused}
@@ -282,14 +289,58 @@ inits_once disk laws one_config input before now later a b told (inr (config, is
     makes_once disk laws config on.old on.new again.new read.0 a b read.1 on.changes
     (subst (λ d. MakesOn disk config b d again.new) (sym same_disk) (subst (λ c. MakesOn disk c b again.old again.new) (sym same_config) again.changes))
 
-same_acts : {T D : Type 0} (disk : Ghosts D) → FileLaws → OneConfig → (command : Command) (input : Text) (before now later : Disks T D) (a b : Outcome) → TellsReal disk before
-    → Acts disk command input before now a → Acts disk command input before later b → a ≡ b
-same_acts disk laws one_config Net input before now later a b told one other = one.0 ∙ sym other.0
-same_acts disk laws one_config Check input before now later a b told one other = same_of checked input a b one.0 other.0
-same_acts disk laws one_config Show input before now later a b told one other = same_of shown input a b one.0 other.0
-same_acts disk laws one_config Init input before now later a b told one other = inits_once disk laws one_config input before now later a b told one other
+-- ---- filters
 
-pub wanted_once : {T D : Type 0} (disk : Ghosts D) → FileLaws → OneConfig → (command : Option Command) (input : List ℕ) (before now later : Disks T D) (a b : Outcome)
-    → TellsReal disk before → Wants disk command input before now a → Wants disk command input before later b → a ≡ b
-wanted_once disk laws one_config None input before now later a b told one other = one.0 ∙ sym other.0
-wanted_once disk laws one_config (Some command) input before now later a b told one other = same_acts disk laws one_config command input before now later a b told one other
+-- what the laws of filters' texts say
+pub record FilterLaws : Type 0 where
+  pub one_filter : (s : List ℕ) (f g : Path) → Reads f s → Reads g s → f ≡ g
+  pub not_refused : (s : List ℕ) (f : Path) (fault : FilterFault) → Reads f s → Refuses s fault → fault ≡ NoRoom
+  pub one_refusal : (s : List ℕ) (a b : FilterFault) → Refuses s a → Refuses s b → (a ≡ NoRoom) ⊎ ((b ≡ NoRoom) ⊎ (a ≡ b))
+
+memory_is_none : (fault : FilterFault) (r : Refusal) → refusal_of_filter fault ≡ Some r → fault ≡ NoRoom → ⊥
+memory_is_none fault r shown is = none_is_not_some (sym (ap refusal_of_filter is) ∙ shown)
+
+same_filter_refusal : FilterLaws → (s : List ℕ) (a b : Refusal) (one : IsRefusedFilter s a) (other : IsRefusedFilter s b) → (one.fault ≡ NoRoom) ⊎ ((other.fault ≡ NoRoom) ⊎ (one.fault ≡ other.fault)) → a ≡ b
+same_filter_refusal laws s a b one other (inl is) = absurd (memory_is_none one.fault a one.shown is)
+same_filter_refusal laws s a b one other (inr (inl is)) = absurd (memory_is_none other.fault b other.shown is)
+same_filter_refusal laws s a b one other (inr (inr same)) =
+    let both : Some a ≡ Some b = sym one.shown ∙ ap refusal_of_filter same ∙ other.shown in cc
+
+same_matched : (f : Path) (input : Text) (a b : Document) (one other : Outcome) → IsDocument input a → IsDocument input b → IsMatched f a one → IsMatched f b other → one ≡ other
+same_matched f input (tree a) (tree b) one other (s, is) (t, also) (inl (passes, e)) (inl (again, g)) = e ∙ sym g
+same_matched f input (tree a) (tree b) one other (s, is) (t, also) (inr (fails, e)) (inr (again, g)) = e ∙ sym g
+same_matched f input (tree a) (tree b) one other (s, is) (t, also) (inl (passes, e)) (inr (fails, g)) = absurd (fails (subst (Passes f) (one_tree input a b is also) passes))
+same_matched f input (tree a) (tree b) one other (s, is) (t, also) (inr (fails, e)) (inl (passes, g)) = absurd (fails (subst (Passes f) (sym (one_tree input a b is also)) passes))
+same_matched f input (tree a) (no_tree n p) one other (s, is) also m k = absurd (spelled_not_told input a (shows n p) is (told_of input n p also))
+same_matched f input (tree a) too_long one other (s, is) above m k = absurd (omega arith)
+same_matched f input (no_tree n p) (tree b) one other is (t, also) m k = absurd (spelled_not_told input b (shows n p) also (told_of input n p is))
+same_matched f input (no_tree n p) (no_tree m q) one other is also e g = e ∙ refused_as (shows n p) (shows m q) (same_told input (shows n p) (shows m q) (told_of input n p is) (told_of input m q also)) ∙ sym g
+same_matched f input (no_tree n p) too_long one other is above e g = absurd (let short = is.0 in omega arith)
+same_matched f input too_long (tree b) one other above (t, also) e g = absurd (omega arith)
+same_matched f input too_long (no_tree n p) one other above also e g = absurd (let short = also.0 in omega arith)
+same_matched f input too_long too_long one other above also e g = e ∙ sym g
+
+matches_once : FilterLaws → (text : List ℕ) (input : Text) (a b : Outcome) → Matches text input a → Matches text input b → a ≡ b
+matches_once laws text input a b (inl (refusal, is, e)) (inl (other, also, g)) =
+    e ∙ ap refused (same_filter_refusal laws text refusal other is also (laws.one_refusal text is.fault also.fault is.refuses also.refuses)) ∙ sym g
+matches_once laws text input a b (inl (refusal, is, e)) (inr (f, reads, m)) = absurd (memory_is_none is.fault refusal is.shown (laws.not_refused text f is.fault reads is.refuses))
+matches_once laws text input a b (inr (f, reads, m)) (inl (refusal, is, e)) = absurd (memory_is_none is.fault refusal is.shown (laws.not_refused text f is.fault reads is.refuses))
+matches_once laws text input a b (inr (f, reads, (document, is, m))) (inr (g, also, (other, so, k))) =
+    same_matched f input document other a b is so m (subst (λ h. IsMatched h other b) (laws.one_filter text g f also reads) k)
+
+same_acts : {T D : Type 0} (disk : Ghosts D) → FileLaws → OneConfig → FilterLaws → (words : List (List ℕ)) (command : Command) (input : Text) (before now later : Disks T D) (a b : Outcome) → TellsReal disk before
+    → Acts disk words command input before now a → Acts disk words command input before later b → a ≡ b
+same_acts disk laws one_config filters words Net input before now later a b told one other = one.0 ∙ sym other.0
+same_acts disk laws one_config filters words Check input before now later a b told one other = same_of checked input a b one.0 other.0
+same_acts disk laws one_config filters words Show input before now later a b told one other = same_of shown input a b one.0 other.0
+same_acts disk laws one_config filters words Match input before now later a b told one other = matches_once filters (filter_of words) input a b one.0 other.0
+same_acts disk laws one_config filters words Init input before now later a b told one other = inits_once disk laws one_config input before now later a b told one other
+
+same_as : {T D : Type 0} (disk : Ghosts D) → FileLaws → OneConfig → FilterLaws → (words : List (List ℕ)) (command : Option Command) (input : List ℕ) (before now later : Disks T D) (a b : Outcome)
+    → TellsReal disk before → ActsAs disk words command input before now a → ActsAs disk words command input before later b → a ≡ b
+same_as disk laws one_config filters words None input before now later a b told one other = one.0 ∙ sym other.0
+same_as disk laws one_config filters words (Some command) input before now later a b told one other = same_acts disk laws one_config filters words command input before now later a b told one other
+
+pub wanted_once : {T D : Type 0} (disk : Ghosts D) → FileLaws → OneConfig → FilterLaws → (words : List (List ℕ)) (input : List ℕ) (before now later : Disks T D) (a b : Outcome)
+    → TellsReal disk before → Wants disk words input before now a → Wants disk words input before later b → a ≡ b
+wanted_once disk laws one_config filters words input before now later a b told one other = same_as disk laws one_config filters words (command_of words) input before now later a b told one other

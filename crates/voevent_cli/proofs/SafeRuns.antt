@@ -18,7 +18,7 @@ use Rattle.voe_scenario.specs.Scenarios.{scenario_of}
 use Rattle.voevent_cli.specs.Answers.{IsSafeRun}
 use Rattle.voevent_cli.specs.Safety.{IsSafeThroughout}
 use Rattle.voevent_cli.specs.declared.command.Command.{Command}
-use Rattle.voevent_cli.specs.declared.command.Command.TheVariants.{Net, Check, Show, Init}
+use Rattle.voevent_cli.specs.declared.command.Command.TheVariants.{Net, Check, Show, Match, Init}
 
 -- what the network's laws say of a property at every moment of every run
 abbrev pub Always : (Rules → Graph → State → Type 0) → Type 0
@@ -58,4 +58,5 @@ safe_run None taken single written fulfilled = tt
 safe_run (Some Net) taken single written fulfilled = safe_throughout (scenario_of taken) single written fulfilled
 safe_run (Some Check) taken single written fulfilled = tt
 safe_run (Some Show) taken single written fulfilled = tt
+safe_run (Some Match) taken single written fulfilled = tt
 safe_run (Some Init) taken single written fulfilled = tt

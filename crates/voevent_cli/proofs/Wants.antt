@@ -20,11 +20,15 @@ use Rattle.voevent_cli.specs.Documents.{Document, tree, no_tree, too_long, Wante
 use Rattle.voevent_cli.specs.Outcomes.{done, refused}
 use Rattle.voevent_cli.specs.Safety.{IsSafeThroughout}
 use Rattle.voevent_cli.specs.declared.command.Command.{Command}
-use Rattle.voevent_cli.specs.declared.command.Command.TheVariants.{Net, Check, Show, Init}
+use Rattle.voevent_cli.specs.declared.command.Command.TheVariants.{Net, Check, Show, Match, Init}
 use Rattle.voevent_cli.specs.declared.outcome.Status.{Status}
 use Rattle.voevent_cli.specs.declared.outcome.Status.TheVariants.{Done, Usage, Refused, ReadFault, WriteFault, DiskFault, NoMemory, JournalRefused}
 use Rattle.voevent_cli.specs.declared.outcome.Outcome.{Outcome}
-use Rattle.voevent_cli.specs.declared.refusal.Refusal.TheVariants.{TooLong, Tree, Validity, BadRole, NoOrigin, Scenario as BadLine, Foreign, Damaged, Made}
+use Rattle.voevent_cli.specs.declared.refusal.Refusal.TheVariants.{TooLong, Tree, Validity, BadRole, NoOrigin, Scenario as BadLine, Filter, Foreign, Damaged, Made}
+use Rattle.filter_text.specs.Filter.{Path}
+use Rattle.filter_text.specs.Reading.{Reads as Spells_filter}
+use Rattle.path_filter.specs.Meaning.{Passes}
+use Rattle.voevent_cli.specs.Matches.{IsMatched, IsNoFilter, IsRefusedFilter, MatchedOf, Matches, refusal_of_filter}
 use Rattle.voevent_cli.specs.Lines.{status_of_refusal}
 use Rattle.voevent_cli.specs.Inits.{Inits, MakesOn}
 use Rattle.node_notes.specs.declared.config.Config.{Config}
@@ -32,9 +36,12 @@ use Rattle.voe_scenario.specs.Configs.{IsConfigOf, configured, with_config_line}
 use Rattle.voe_scenario.specs.ConfigRefusals.{RefusesConfigLine}
 use Rattle.voe_scenario.specs.Lines.{LinesRead, TextRead, Refusal as BadText}
 use Rattle.std.specs.Prelude.{MatchBool}
-use Rattle.voevent_cli.specs.Wanted.{Acts, Wants, code_of, command_of, final_state, limit_of, wanted_of_net, reported}
-use Rattle.voevent_cli.specs.Answers.{Moment, HasRead, Answered, IsSafeRun, Says, DoesAll}
-use Rattle.voevent_cli.specs.Prepared.{Acted, IsWantedAbove, Prepares}
+use Rattle.voevent_cli.specs.Wanted.{Acts, ActsAs, Wants, code_of, command_of, filter_of, final_state, limit_of, wanted_of_net, reported}
+use Rattle.voevent_cli.specs.Answers.{Moment, HasRead, HasReadFor, ReadsOn, Answered, IsSafeRun, Says, DoesAll}
+use Rattle.filter_text.specs.Refusal.{Refuses as Refuses_filter}
+use Rattle.filter_text.specs.declared.fault.FilterFault.{FilterFault}
+use Rattle.filter_text.specs.declared.fault.FilterFault.TheVariants.{NoMemory as NoRoom}
+use Rattle.voevent_cli.specs.Prepared.{Acted, IsWantedAbove, MatchPrepares, Prepares}
 use Rattle.voevent_cli.specs.declared.prepare.Hindrance.{Hindrance}
 use Rattle.voevent_cli.specs.declared.prepare.Hindrance.TheVariants.{ReadFault as Unread, DiskFault as Failed, NoMemory as Starved}
 use Rattle.voevent_cli.specs.Racks.{Disks, AreSame}
@@ -80,6 +87,20 @@ pub wanted-no_tree : (judged : Element → Outcome) (input : List ℕ) (fault : 
     → RefusesTree input fault → Some number ≡ number_of_fault fault → place ≡ place_of_fault fault → outcome ≡ refused (Tree number place) → WantedOf judged input outcome
 wanted-no_tree judged input fault number place outcome short refuses numbered placed is =
     (no_tree number place, (short, fault, refuses, sym numbered, sym placed), is)
+
+-- the same of `match`
+pub matched-no_tree : (f : Path) (input : List ℕ) (fault : TreeFault) (number : ℕ) (place : Option ℕ) (outcome : Outcome) → length input ≤ 1048576
+    → RefusesTree input fault → Some number ≡ number_of_fault fault → place ≡ place_of_fault fault → outcome ≡ refused (Tree number place) → MatchedOf f input outcome
+matched-no_tree f input fault number place outcome short refuses numbered placed is =
+    (no_tree number place, (short, fault, refuses, sym numbered, sym placed), is)
+
+pub matched-tree : (f : Path) (input : List ℕ) (root : Element) (outcome : Outcome) → length input ≤ 1048576 → Spells root input → IsMatched f (tree root) outcome → MatchedOf f input outcome
+matched-tree f input root outcome short spells is = (tree root, (short, spells), is)
+
+too_long-matched : (f : Path) (one two : List ℕ) (outcome : Outcome) → 1048576 < length one → 1048576 < length two → MatchedOf f one outcome → MatchedOf f two outcome
+too_long-matched f one two outcome first second (tree root, is, same) = absurd (let short = is.0 in omega arith)
+too_long-matched f one two outcome first second (no_tree number place, is, same) = absurd (let short = is.0 in omega arith)
+too_long-matched f one two outcome first second (too_long, is, same) = (too_long, second, same)
 
 pub wanted-too_long : (judged : Element → Outcome) (input : List ℕ) → 1048576 < length input → WantedOf judged input (refused TooLong)
 wanted-too_long judged input above = (too_long, above, refl)
@@ -131,32 +152,45 @@ same_disks : {T D : Type 0} (rack : Disks T D) → AreSame rack rack
 same_disks rack = record { trials = λ k. refl; real = refl }
 
 -- above its limit a command's inputs are all alike
-acts_alike : {T D : Type 0} (disk : Ghosts D) (command : Command) (one two : List ℕ) (before now : Disks T D) (outcome : Outcome)
-    → limit_of command < length one → limit_of command < length two → Acts disk command one before now outcome → Acts disk command two before now outcome
-acts_alike disk Net one two before now outcome first second acts = (acts.0 ∙ wanted_of_net-above one first ∙ sym (wanted_of_net-above two second), acts.1)
-acts_alike disk Check one two before now outcome first second acts = (too_long-alike checked one two outcome first second acts.0, acts.1)
-acts_alike disk Show one two before now outcome first second acts = (too_long-alike shown one two outcome first second acts.0, acts.1)
-acts_alike disk Init one two before now outcome first second (inl (line, is, same, still)) =
+acts_alike : {T D : Type 0} (disk : Ghosts D) (words : List (List ℕ)) (command : Command) (one two : List ℕ) (before now : Disks T D) (outcome : Outcome)
+    → limit_of command < length one → limit_of command < length two → Acts disk words command one before now outcome → Acts disk words command two before now outcome
+acts_alike disk words Net one two before now outcome first second acts = (acts.0 ∙ wanted_of_net-above one first ∙ sym (wanted_of_net-above two second), acts.1)
+acts_alike disk words Check one two before now outcome first second acts = (too_long-alike checked one two outcome first second acts.0, acts.1)
+acts_alike disk words Show one two before now outcome first second acts = (too_long-alike shown one two outcome first second acts.0, acts.1)
+acts_alike disk words Match one two before now outcome first second (inl (refusal, is, same), still) = (inl (refusal, is, same), still)
+acts_alike disk words Match one two before now outcome first second (inr (f, reads, matched), still) = (inr (f, reads, too_long-matched f one two outcome first second matched), still)
+acts_alike disk words Init one two before now outcome first second (inl (line, is, same, still)) =
     inl (line, config_above one two (Err line) first second is, same, still)
-acts_alike disk Init one two before now outcome first second (inr (config, is, on)) =
+acts_alike disk words Init one two before now outcome first second (inr (config, is, on)) =
     absurd (no_config_above one config first is)
 
 -- and nothing is done to the disks
-acts_above : {T D : Type 0} (disk : Ghosts D) (command : Command) (input : List ℕ) (rack : Disks T D) (outcome : Outcome)
-    → limit_of command < length input → IsWantedAbove command outcome → Acts disk command input rack rack outcome
-acts_above disk Net input rack outcome above wanted = (wanted input above, same_disks rack)
-acts_above disk Check input rack outcome above wanted = (wanted input above, same_disks rack)
-acts_above disk Show input rack outcome above wanted = (wanted input above, same_disks rack)
-acts_above disk Init input rack outcome above (line, is, wanted) = inl (line, wanted input above, is, same_disks rack)
+acts_above : {T D : Type 0} (disk : Ghosts D) (words : List (List ℕ)) (command : Command) (input : List ℕ) (rack : Disks T D) (outcome : Outcome)
+    → limit_of command < length input → IsWantedAbove command outcome → Acts disk words command input rack rack outcome
+acts_above disk words Net input rack outcome above wanted = (wanted input above, same_disks rack)
+acts_above disk words Check input rack outcome above wanted = (wanted input above, same_disks rack)
+acts_above disk words Show input rack outcome above wanted = (wanted input above, same_disks rack)
+acts_above disk words Match input rack outcome above wanted = absurd wanted
+acts_above disk words Init input rack outcome above (line, is, wanted) = inl (line, wanted input above, is, same_disks rack)
+
+-- ---- what was read
+
+-- a command but `match` has read its input
+has_read : (words : List (List ℕ)) (command : Command) (taken : List ℕ) (left : Option (List ℕ)) → (command ≡ Match → ⊥) → ReadsOn command taken left → HasReadFor words (Some command) taken left
+has_read words Net taken left other read = read
+has_read words Check taken left other read = read
+has_read words Show taken left other read = read
+has_read words Match taken left other read = absurd (other refl)
+has_read words Init taken left other read = read
 
 -- an input above a command's limit was taken
 pub prepared_above : {T D : Type 0} (disk : Ghosts D) (words : List (List ℕ)) (command : Command) (limit : ℕ) (left left_now : Option (List ℕ)) (faults faults_now : ℕ)
-    (rack : Disks T D) (refusal : Reason) (outcome : Outcome) → command_of words ≡ Some command → limit ≡ limit_of command → outcome ≡ refused refusal → IsWantedAbove command (refused refusal)
-    → Reads limit left left_now (Err TooMuch) → Prepares disk words left left_now faults faults_now rack rack (Ok outcome)
-prepared_above disk words command limit left left_now faults faults_now rack refusal outcome is limit_is outcome_is wanted reads =
+    (rack : Disks T D) (refusal : Reason) (outcome : Outcome) → command_of words ≡ Some command → (command ≡ Match → ⊥) → limit ≡ limit_of command → outcome ≡ refused refusal
+    → IsWantedAbove command (refused refusal) → Reads limit left left_now (Err TooMuch) → Prepares disk words left left_now faults faults_now rack rack (Ok outcome)
+prepared_above disk words command limit left left_now faults faults_now rack refusal outcome is other limit_is outcome_is wanted reads =
     let above : limit_of command < length reads.0 = rw (← limit_is) reads.2 in
     let most : length reads.0 ≤ limit_of command + BUFFER = rw (← limit_is) reads.3 in
-    rw is (reads.0, (reads.1, most), inr above, rw outcome_is (acts_above disk command reads.0 rack (refused refusal) above wanted))
+    rw is (reads.0, (reads.1, most), has_read words command reads.0 left_now other (inr above), rw outcome_is (acts_above disk words command reads.0 rack (refused refusal) above wanted))
 
 -- an outcome is wanted with one of four statuses
 abbrev pub IsAnswer : Status → Type 0
@@ -210,6 +244,7 @@ refusal_answers (Validity number) = tt
 refusal_answers BadRole = tt
 refusal_answers NoOrigin = tt
 refusal_answers (BadLine number line) = tt
+refusal_answers (Filter number place) = tt
 refusal_answers (Foreign place) = tt
 refusal_answers (Damaged place) = tt
 refusal_answers Made = tt
@@ -218,17 +253,29 @@ makes_answers : {D : Type 0} (disk : Ghosts D) (config : Config) (outcome : Outc
 makes_answers disk config outcome old new (inl (is, made)) = subst (λ (o : Outcome). IsAnswer o.status) (sym is) tt
 makes_answers disk config outcome old new (inr (refusal, is, cause)) = subst (λ (o : Outcome). IsAnswer o.status) (sym is) (refusal_answers refusal)
 
-acts_answers : {T D : Type 0} (disk : Ghosts D) (command : Command) (input : List ℕ) (before now : Disks T D) (outcome : Outcome) → Acts disk command input before now outcome → IsAnswer outcome.status
-unfolding wanted_of_net
-acts_answers disk Net input before now outcome acts = subst (λ (o : Outcome). IsAnswer o.status) (sym acts.0) (reported_answers (scenario_of input))
-acts_answers disk Check input before now outcome acts = of_answers checked (λ root. checked_answers (least_broken_row root) root) input outcome acts.0
-acts_answers disk Show input before now outcome acts = of_answers shown root_answers input outcome acts.0
-acts_answers disk Init input before now outcome (inl (line, is, same, still)) = subst (λ (o : Outcome). IsAnswer o.status) (sym same) tt
-acts_answers disk Init input before now outcome (inr (config, is, on)) = makes_answers disk config outcome on.old on.new on.changes
+matched_answers : (f : Path) (document : Document) (outcome : Outcome) → IsMatched f document outcome → IsAnswer outcome.status
+matched_answers f (tree root) outcome (inl (passes, is)) = subst (λ (o : Outcome). IsAnswer o.status) (sym is) tt
+matched_answers f (tree root) outcome (inr (fails, is)) = subst (λ (o : Outcome). IsAnswer o.status) (sym is) tt
+matched_answers f (no_tree number place) outcome is = subst (λ (o : Outcome). IsAnswer o.status) (sym is) tt
+matched_answers f too_long outcome is = subst (λ (o : Outcome). IsAnswer o.status) (sym is) tt
 
-pub wants_answers : {T D : Type 0} (disk : Ghosts D) (command : Option Command) (input : List ℕ) (before now : Disks T D) (outcome : Outcome) → Wants disk command input before now outcome → IsAnswer outcome.status
-wants_answers disk None input before now outcome wants = subst (λ (o : Outcome). IsAnswer o.status) (sym wants.0) tt
-wants_answers disk (Some command) input before now outcome wants = acts_answers disk command input before now outcome wants
+acts_answers : {T D : Type 0} (disk : Ghosts D) (words : List (List ℕ)) (command : Command) (input : List ℕ) (before now : Disks T D) (outcome : Outcome) → Acts disk words command input before now outcome → IsAnswer outcome.status
+unfolding wanted_of_net
+acts_answers disk words Net input before now outcome acts = subst (λ (o : Outcome). IsAnswer o.status) (sym acts.0) (reported_answers (scenario_of input))
+acts_answers disk words Check input before now outcome acts = of_answers checked (λ root. checked_answers (least_broken_row root) root) input outcome acts.0
+acts_answers disk words Show input before now outcome acts = of_answers shown root_answers input outcome acts.0
+acts_answers disk words Match input before now outcome (inl (refusal, is, same), still) = subst (λ (o : Outcome). IsAnswer o.status) (sym same) (refusal_answers refusal)
+acts_answers disk words Match input before now outcome (inr (f, reads, (document, is, matched)), still) = matched_answers f document outcome matched
+acts_answers disk words Init input before now outcome (inl (line, is, same, still)) = subst (λ (o : Outcome). IsAnswer o.status) (sym same) tt
+acts_answers disk words Init input before now outcome (inr (config, is, on)) = makes_answers disk config outcome on.old on.new on.changes
+
+as_answers : {T D : Type 0} (disk : Ghosts D) (words : List (List ℕ)) (command : Option Command) (input : List ℕ) (before now : Disks T D) (outcome : Outcome)
+    → ActsAs disk words command input before now outcome → IsAnswer outcome.status
+as_answers disk words None input before now outcome wants = subst (λ (o : Outcome). IsAnswer o.status) (sym wants.0) tt
+as_answers disk words (Some command) input before now outcome wants = acts_answers disk words command input before now outcome wants
+
+pub wants_answers : {T D : Type 0} (disk : Ghosts D) (words : List (List ℕ)) (input : List ℕ) (before now : Disks T D) (outcome : Outcome) → Wants disk words input before now outcome → IsAnswer outcome.status
+wants_answers disk words input before now outcome wants = as_answers disk words (command_of words) input before now outcome wants
 
 -- such a status is no fault
 pub answer_code : (status : Status) → IsAnswer status → ((code_of status == 4) ≡ false) × ((code_of status == 5) ≡ false)
@@ -254,27 +301,37 @@ written disk words taken before now DiskFault answer answered sound = absurd ans
 written disk words taken before now NoMemory answer answered sound = absurd answer
 
 -- what was taken is the whole input, or both are above the limit
-wants_taken : {T D : Type 0} (disk : Ghosts D) (command : Option Command) (taken input : List ℕ) (left : Option (List ℕ)) (before now : Disks T D) (outcome : Outcome)
-    → HasRead command taken left → Gave taken (Some input) left → Wants disk command taken before now outcome → Wants disk command input before now outcome
-wants_taken disk None taken input left before now outcome read gave wants = wants
-wants_taken disk (Some command) taken input None before now outcome read gave wants = absurd (let wrong : Some input ≡ None = gave in cc)
-wants_taken disk (Some command) taken input (Some rest) before now outcome (inl ended) gave wants =
+taken_on : {T D : Type 0} (disk : Ghosts D) (words : List (List ℕ)) (command : Command) (taken input : List ℕ) (left : Option (List ℕ)) (before now : Disks T D) (outcome : Outcome)
+    → ReadsOn command taken left → Gave taken (Some input) left → Acts disk words command taken before now outcome → Acts disk words command input before now outcome
+taken_on disk words command taken input None before now outcome read gave wants = absurd (let wrong : Some input ≡ None = gave in cc)
+taken_on disk words command taken input (Some rest) before now outcome (inl ended) gave wants =
     let whole : Some input ≡ Some (taken ++ rest) = gave in
     let none : rest ≡ [] = ended in
     let same : input ≡ taken ++ rest = cc in
     let all : taken ≡ input = sym (same ∙ ap (λ r. taken ++ r) none ∙ append-nil taken) in
-    subst (λ bytes. Acts disk command bytes before now outcome) all wants
-wants_taken disk (Some command) taken input (Some rest) before now outcome (inr above) gave wants =
+    subst (λ bytes. Acts disk words command bytes before now outcome) all wants
+taken_on disk words command taken input (Some rest) before now outcome (inr above) gave wants =
     let whole : Some input ≡ Some (taken ++ rest) = gave in
     let same : input ≡ taken ++ rest = cc in
     let longer : limit_of command < length input = rw same (simp length-append (omega arith)) in
-    acts_alike disk command taken input before now outcome above longer wants
+    acts_alike disk words command taken input before now outcome above longer wants
+
+acts_taken : {T D : Type 0} (disk : Ghosts D) (words : List (List ℕ)) (command : Option Command) (taken input : List ℕ) (left : Option (List ℕ)) (before now : Disks T D) (outcome : Outcome)
+    → HasReadFor words command taken left → Gave taken (Some input) left → ActsAs disk words command taken before now outcome → ActsAs disk words command input before now outcome
+acts_taken disk words None taken input left before now outcome read gave wants = wants
+acts_taken disk words (Some Net) taken input left before now outcome read gave wants = taken_on disk words Net taken input left before now outcome read gave wants
+acts_taken disk words (Some Check) taken input left before now outcome read gave wants = taken_on disk words Check taken input left before now outcome read gave wants
+acts_taken disk words (Some Show) taken input left before now outcome read gave wants = taken_on disk words Show taken input left before now outcome read gave wants
+acts_taken disk words (Some Match) taken input left before now outcome (inl (filter, read)) gave wants = taken_on disk words Match taken input left before now outcome read gave wants
+acts_taken disk words (Some Match) taken input left before now outcome (inr (none, nothing)) gave (inl refused_so, still) = (inl refused_so, still)
+acts_taken disk words (Some Match) taken input left before now outcome (inr (none, nothing)) gave (inr (f, reads, matched), still) = absurd (none f reads)
+acts_taken disk words (Some Init) taken input left before now outcome read gave wants = taken_on disk words Init taken input left before now outcome read gave wants
 
 all_done : {T D : Type 0} (disk : Ghosts D) (words : List (List ℕ)) (taken input : List ℕ) (before now : Moment T D) (status : Status) → before.left ≡ Some input
     → Gave taken before.left now.left → Answered disk words taken before now status → DoesAll disk words input before now (code_of status)
 all_done disk words taken input before now status told gave answered = inl (record {
   outcome = answered.outcome;
-  wanted = wants_taken disk (command_of words) taken input now.left before.rack now.rack answered.outcome answered.read (rw told at gave) answered.wanted;
+  wanted = acts_taken disk words (command_of words) taken input now.left before.rack now.rack answered.outcome answered.read (rw told at gave) answered.wanted;
   wanted_code = ap code_of (sym answered.wanted_status);
   output = answered.output;
 })
@@ -291,17 +348,55 @@ does_all disk words taken input before now WriteFault told gave says = inr (inr 
 does_all disk words taken input before now DiskFault told gave says = inr (inr (inr (inl (refl, says.2))))
 does_all disk words taken input before now NoMemory told gave says = inr (inr (inr (inr refl)))
 
--- what a command did with its whole input is what was prepared
+-- what a command but `match` did with its whole input is what was prepared
 pub prepared_whole : {T D : Type 0} (disk : Ghosts D) (words : List (List ℕ)) (command : Command) (limit : ℕ) (left left_now : Option (List ℕ)) (faults faults_now : ℕ)
-    (before now : Disks T D) (input : List ℕ) (result : Result Outcome Hindrance) → command_of words ≡ Some command → limit ≡ limit_of command
-    → Reads limit left left_now (Ok input) → Acted disk command input before now result → Prepares disk words left left_now faults faults_now before now result
-prepared_whole disk words command limit left left_now faults faults_now before now input (Ok outcome) is limit_is reads acted =
+    (before now : Disks T D) (input : List ℕ) (result : Result Outcome Hindrance) → command_of words ≡ Some command → (command ≡ Match → ⊥) → limit ≡ limit_of command
+    → Reads limit left left_now (Ok input) → Acted disk words command input before now result → Prepares disk words left left_now faults faults_now before now result
+prepared_whole disk words command limit left left_now faults faults_now before now input (Ok outcome) is other limit_is reads acted =
     let few : length input ≤ limit_of command + BUFFER = rw (← limit_is) (let short = reads.2 in omega arith) in
-    rw is (input, (reads.0, few), inl reads.1, acted)
-prepared_whole disk words command limit left left_now faults faults_now before now input (Err Unread) is limit_is reads acted = absurd acted
-prepared_whole disk words command limit left left_now faults faults_now before now input (Err Failed) is limit_is reads acted =
+    rw is (input, (reads.0, few), has_read words command input left_now other (inl reads.1), acted)
+prepared_whole disk words command limit left left_now faults faults_now before now input (Err Unread) is other limit_is reads acted = absurd acted
+prepared_whole disk words command limit left left_now faults faults_now before now input (Err Failed) is other limit_is reads acted =
     let few : length input ≤ limit_of command + BUFFER = rw (← limit_is) (let short = reads.2 in omega arith) in
-    rw is (input, (reads.0, few), inl reads.1, acted)
-prepared_whole disk words command limit left left_now faults faults_now before now input (Err Starved) is limit_is reads acted =
+    rw is (input, (reads.0, few), has_read words command input left_now other (inl reads.1), acted)
+prepared_whole disk words command limit left left_now faults faults_now before now input (Err Starved) is other limit_is reads acted =
     let few : length input ≤ limit_of command + BUFFER = rw (← limit_is) (let short = reads.2 in omega arith) in
     rw is (input, (reads.0, few))
+
+-- what was done of a filter and a document is what was prepared
+pub prepared_match : {T D : Type 0} (disk : Ghosts D) (words : List (List ℕ)) (left left_now : Option (List ℕ)) (faults faults_now : ℕ) (rack : Disks T D)
+    (result : Result Outcome Hindrance) → command_of words ≡ Some Match → MatchPrepares words left left_now faults faults_now result → Prepares disk words left left_now faults faults_now rack rack result
+prepared_match disk words left left_now faults faults_now rack (Ok outcome) is (taken, took, read, matches) = (taken, took, read, rw is (matches, same_disks rack))
+prepared_match disk words left left_now faults faults_now rack (Err Unread) is (taken, took, within, rose) = (taken, took, within, rose, same_disks rack)
+prepared_match disk words left left_now faults faults_now rack (Err Failed) is wrong = absurd wrong
+prepared_match disk words left left_now faults faults_now rack (Err Starved) is prepared = prepared
+
+-- nothing was taken
+gave_none : (left : Option (List ℕ)) → Gave [] left left
+gave_none None = refl
+gave_none (Some bytes) = refl
+
+-- a filter that is refused
+pub matched_refused : (words : List (List ℕ)) (left : Option (List ℕ)) (faults faults_now : ℕ) (fault : FilterFault) (refusal : Reason) (outcome : Outcome) → command_of words ≡ Some Match
+    → ((f : Path) (other : FilterFault) → Spells_filter f (filter_of words) → Refuses_filter (filter_of words) other → other ≡ NoRoom) → Refuses_filter (filter_of words) fault
+    → Some refusal ≡ refusal_of_filter fault → outcome ≡ refused refusal → MatchPrepares words left left faults faults_now (Ok outcome)
+matched_refused words left faults faults_now fault refusal outcome is law refuses shown outcome_is =
+    let none : IsNoFilter (filter_of words) = λ f reads. some_is_not_none refusal (shown ∙ ap refusal_of_filter (law f fault reads refuses)) in
+    ([], (gave_none left, rw is (omega arith)), rw is (inr (none, refl)), inl (refusal, record { fault = fault; refuses = refuses; shown = sym shown }, outcome_is))
+  where
+    some_is_not_none : (r : Reason) → Some r ≡ None → ⊥
+    some_is_not_none r e = cc
+
+-- a document that was read
+pub matched_whole : (words : List (List ℕ)) (f : Path) (limit : ℕ) (left left_now : Option (List ℕ)) (faults faults_now : ℕ) (input : List ℕ) (outcome : Outcome) → command_of words ≡ Some Match
+    → limit ≡ 1048576 → Spells_filter f (filter_of words) → Reads limit left left_now (Ok input) → MatchedOf f input outcome → MatchPrepares words left left_now faults faults_now (Ok outcome)
+matched_whole words f limit left left_now faults faults_now input outcome is limit_is reads_filter reads matched =
+    let few : length input ≤ 1048576 + BUFFER = let short = reads.2 in omega arith in
+    (input, (reads.0, rw is few), rw is (inl ((f, reads_filter), inl reads.1)), inr (f, reads_filter, matched))
+
+pub matched_above : (words : List (List ℕ)) (f : Path) (limit : ℕ) (left left_now : Option (List ℕ)) (faults faults_now : ℕ) (outcome : Outcome) → command_of words ≡ Some Match
+    → limit ≡ 1048576 → Spells_filter f (filter_of words) → Reads limit left left_now (Err TooMuch) → outcome ≡ refused TooLong → MatchPrepares words left left_now faults faults_now (Ok outcome)
+matched_above words f limit left left_now faults faults_now outcome is limit_is reads_filter reads outcome_is =
+    let above : 1048576 < length reads.0 = let over = reads.2 in omega arith in
+    let most : length reads.0 ≤ 1048576 + BUFFER = let under = reads.3 in omega arith in
+    (reads.0, (reads.1, rw is most), rw is (inl ((f, reads_filter), inr above)), inr (f, reads_filter, (too_long, above, outcome_is)))

@@ -9,12 +9,15 @@ use Rattle.voe_outside.specs.declared.whole.TheConstants.{BUFFER}
 use Rattle.voe_scenario.specs.Scenarios.{scenario_of}
 use Rattle.voevent_cli.specs.Racks.{Disks, AreSame, RealRose}
 use Rattle.voevent_cli.specs.declared.command.Command.{Command}
-use Rattle.voevent_cli.specs.declared.command.Command.TheVariants.{Net, Check, Show, Init}
+use Rattle.voevent_cli.specs.declared.command.Command.TheVariants.{Net, Check, Show, Match, Init}
 use Rattle.voevent_cli.specs.declared.outcome.Outcome.{Outcome}
 use Rattle.voevent_cli.specs.declared.outcome.Status.{Status}
 use Rattle.voevent_cli.specs.declared.outcome.Status.TheVariants.{Done, Usage, Refused, ReadFault, WriteFault, DiskFault, NoMemory, JournalRefused}
 use Rattle.voevent_cli.specs.Safety.{IsSafeThroughout}
-use Rattle.voevent_cli.specs.Wanted.{Wants, code_of, command_of, limit_of}
+use Rattle.filter_text.specs.Filter.{Path}
+use Rattle.filter_text.specs.Reading.{Reads}
+use Rattle.voevent_cli.specs.Matches.{IsNoFilter}
+use Rattle.voevent_cli.specs.Wanted.{Wants, code_of, command_of, filter_of, limit_of}
 
 -- A source, a sink and a rack at one moment: what is left and what is held, where they tell it, how often each has failed, and
 -- the disks.
@@ -34,10 +37,21 @@ abbrev pub most_of : Option Command → ℕ
 most_of None = 0
 most_of (Some command) = limit_of command + BUFFER
 
--- a command's input was read to its end, or past its limit; without a command nothing was read
-abbrev pub HasRead : Option Command → List ℕ → Option (List ℕ) → Type 0
-HasRead None taken left = taken ≡ []
-HasRead (Some command) taken left = IsAtEnd left ⊎ (limit_of command < length taken)
+-- the input was read to its end, or past the command's limit
+abbrev pub ReadsOn : Command → List ℕ → Option (List ℕ) → Type 0
+ReadsOn command taken left = IsAtEnd left ⊎ (limit_of command < length taken)
+
+-- a command's input was read so; without a command, and for a filter that is none, nothing was read
+abbrev pub HasReadFor : List (List ℕ) → Option Command → List ℕ → Option (List ℕ) → Type 0
+HasReadFor words None taken left = taken ≡ []
+HasReadFor words (Some Match) taken left = (((f : Path) × Reads f (filter_of words)) × ReadsOn Match taken left) ⊎ (IsNoFilter (filter_of words) × (taken ≡ []))
+HasReadFor words (Some Net) taken left = ReadsOn Net taken left
+HasReadFor words (Some Check) taken left = ReadsOn Check taken left
+HasReadFor words (Some Show) taken left = ReadsOn Show taken left
+HasReadFor words (Some Init) taken left = ReadsOn Init taken left
+
+abbrev pub HasRead : List (List ℕ) → List ℕ → Option (List ℕ) → Type 0
+HasRead words taken left = HasReadFor words (command_of words) taken left
 
 -- of a command's input no more was taken than its limit
 abbrev pub IsWithin : Option Command → List ℕ → Type 0
@@ -46,17 +60,17 @@ IsWithin (Some command) taken = length taken ≤ limit_of command
 
 -- the outcome is a wanted one of this status, and its bytes stand behind what the sink held
 pub record Answered {T D : Type 0} (disk : Ghosts D) (words : List (List ℕ)) (taken : List ℕ) (before now : Moment T D) (status : Status) : Type 0 where
-  pub read : HasRead (command_of words) taken now.left
+  pub read : HasRead words taken now.left
   pub outcome : Outcome
-  pub wanted : Wants disk (command_of words) taken before.rack now.rack outcome
+  pub wanted : Wants disk words taken before.rack now.rack outcome
   pub wanted_status : outcome.status ≡ status
   pub output : now.held ≡ append_known before.held outcome.output
 
 -- a front of the wanted bytes stands behind what the sink held
 pub record CutShort {T D : Type 0} (disk : Ghosts D) (words : List (List ℕ)) (taken : List ℕ) (before now : Moment T D) : Type 0 where
-  pub read : HasRead (command_of words) taken now.left
+  pub read : HasRead words taken now.left
   pub outcome : Outcome
-  pub wanted : Wants disk (command_of words) taken before.rack now.rack outcome
+  pub wanted : Wants disk words taken before.rack now.rack outcome
   pub count : ℕ
   pub part : count < length outcome.output
   pub output : now.held ≡ append_known before.held (take count outcome.output)
@@ -66,6 +80,7 @@ abbrev pub IsSafeRun : Option Command → List ℕ → Type 0
 IsSafeRun (Some Net) taken = IsSafeThroughout (scenario_of taken)
 IsSafeRun (Some Check) taken = Unit {0}
 IsSafeRun (Some Show) taken = Unit {0}
+IsSafeRun (Some Match) taken = Unit {0}
 IsSafeRun (Some Init) taken = Unit {0}
 IsSafeRun None taken = Unit {0}
 
@@ -79,7 +94,7 @@ Says disk words taken before now ReadFault =
     IsWithin (command_of words) taken × (now.held ≡ before.held) × Rose before.read_faults now.read_faults × AreSame before.rack now.rack
 Says disk words taken before now WriteFault = CutShort disk words taken before now × Rose before.write_faults now.write_faults
 Says disk words taken before now DiskFault =
-    HasRead (command_of words) taken now.left × (now.held ≡ before.held) × RealRose disk before.rack now.rack
+    HasRead words taken now.left × (now.held ≡ before.held) × RealRose disk before.rack now.rack
 Says disk words taken before now NoMemory = now.held ≡ before.held
 
 -- some bytes were taken from the source's start, and the status is right for them
@@ -96,7 +111,7 @@ Answers disk words before now code = (status : Status) × (code ≡ code_of stat
 -- what is wanted for this input was done
 pub record IsDone {T D : Type 0} (disk : Ghosts D) (words : List (List ℕ)) (input : List ℕ) (before now : Moment T D) (code : ℕ) : Type 0 where
   pub outcome : Outcome
-  pub wanted : Wants disk (command_of words) input before.rack now.rack outcome
+  pub wanted : Wants disk words input before.rack now.rack outcome
   pub wanted_code : code ≡ code_of outcome.status
   pub output : now.held ≡ append_known before.held outcome.output
 

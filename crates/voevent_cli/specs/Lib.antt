@@ -4,6 +4,7 @@ pub mod Lines
 pub mod Outcomes
 pub mod Documents
 pub mod Inits
+pub mod Matches
 pub mod Wanted
 pub mod Safety
 pub mod Answers

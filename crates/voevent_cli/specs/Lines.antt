@@ -2,7 +2,7 @@
 use Rattle.std.specs.Prelude.{ℕ, ◌/◌, ◌%◌, List, [], ◌∷◌, ◌++◌, Some, None, codes}
 use Rattle.std.specs.Fmt.{decimal}
 use Rattle.voevent_cli.specs.declared.refusal.Refusal.{Refusal}
-use Rattle.voevent_cli.specs.declared.refusal.Refusal.TheVariants.{TooLong, Tree, Validity, BadRole, NoOrigin, Scenario, Foreign, Damaged, Made}
+use Rattle.voevent_cli.specs.declared.refusal.Refusal.TheVariants.{TooLong, Tree, Validity, BadRole, NoOrigin, Scenario, Filter, Foreign, Damaged, Made}
 use Rattle.voevent_cli.specs.declared.outcome.Status.{Status}
 use Rattle.voevent_cli.specs.declared.outcome.Status.TheVariants.{Refused, JournalRefused}
 
@@ -18,6 +18,7 @@ code_of_refusal (Validity number) = codes "V" ++ two_digits number
 code_of_refusal BadRole = codes "M2"
 code_of_refusal NoOrigin = codes "M3"
 code_of_refusal (Scenario number line) = codes "S0" ++ decimal number
+code_of_refusal (Filter number place) = codes "P" ++ decimal number
 code_of_refusal (Foreign place) = codes "G2"
 code_of_refusal (Damaged place) = codes "G3"
 code_of_refusal Made = codes "G5"
@@ -31,6 +32,7 @@ place_of_refusal (Validity number) = []
 place_of_refusal BadRole = []
 place_of_refusal NoOrigin = []
 place_of_refusal (Scenario number line) = codes " line " ++ decimal line
+place_of_refusal (Filter number place) = codes " at " ++ decimal place
 place_of_refusal (Foreign place) = codes " at " ++ decimal place
 place_of_refusal (Damaged place) = codes " at " ++ decimal place
 place_of_refusal Made = []
@@ -43,6 +45,7 @@ status_of_refusal (Validity number) = Refused
 status_of_refusal BadRole = Refused
 status_of_refusal NoOrigin = Refused
 status_of_refusal (Scenario number line) = Refused
+status_of_refusal (Filter number place) = Refused
 status_of_refusal (Foreign place) = JournalRefused
 status_of_refusal (Damaged place) = JournalRefused
 status_of_refusal Made = JournalRefused

@@ -14,8 +14,9 @@ use Rattle.voe_scenario.specs.Lines.{Refusal as BadLine}
 use Rattle.voevent_cli.specs.Outcomes.{refused}
 use Rattle.voevent_cli.specs.declared.refusal.Refusal.TheVariants.{Scenario}
 use Rattle.voevent_cli.specs.Documents.{WantedOf, checked, shown}
-use Rattle.voevent_cli.specs.Wanted.{Acts, Wants, command_of, limit_of, wanted_of_net}
-use Rattle.voevent_cli.specs.declared.command.Command.TheVariants.{Net, Check, Show, Init}
+use Rattle.voevent_cli.specs.Matches.{Matches}
+use Rattle.voevent_cli.specs.Wanted.{Acts, Wants, command_of, filter_of, limit_of, wanted_of_net}
+use Rattle.voevent_cli.specs.declared.command.Command.TheVariants.{Net, Check, Show, Match, Init}
 use Rattle.voevent_cli.specs.Answers.{HasRead, IsWithin, most_of}
 
 -- these bytes were taken, and not too many
@@ -27,6 +28,7 @@ abbrev pub IsWantedAbove : Command → Outcome → Type 0
 IsWantedAbove Net outcome = (input : List ℕ) → limit_of Net < length input → outcome ≡ wanted_of_net input
 IsWantedAbove Check outcome = (input : List ℕ) → limit_of Check < length input → WantedOf checked input outcome
 IsWantedAbove Show outcome = (input : List ℕ) → limit_of Show < length input → WantedOf shown input outcome
+IsWantedAbove Match outcome = ⊥
 IsWantedAbove Init outcome =
     (line : BadLine) × (outcome ≡ refused (Scenario line.number line.line)) × ((input : List ℕ) → limit_of Init < length input → IsConfigOf input (Err line))
 
@@ -37,18 +39,18 @@ IsHinderedRack disk before now DiskFault = RealRose disk before now
 IsHinderedRack disk before now NoMemory = Unit {0}
 
 -- what a command did with its whole input
-abbrev pub Acted : {T D : Type 0} → Ghosts D → Command → List ℕ → Disks T D → Disks T D → Result Outcome Hindrance → Type 0
-Acted disk command input before now (Ok outcome) = Acts disk command input before now outcome
-Acted disk command input before now (Err hindrance) = IsHinderedRack disk before now hindrance
+abbrev pub Acted : {T D : Type 0} → Ghosts D → List (List ℕ) → Command → List ℕ → Disks T D → Disks T D → Result Outcome Hindrance → Type 0
+Acted disk words command input before now (Ok outcome) = Acts disk words command input before now outcome
+Acted disk words command input before now (Err hindrance) = IsHinderedRack disk before now hindrance
 
 -- what was done of the words
 abbrev pub Prepares : {T D : Type 0} → Ghosts D → List (List ℕ) → Option (List ℕ) → Option (List ℕ) → ℕ → ℕ → Disks T D → Disks T D → Result Outcome Hindrance → Type 0
 Prepares disk words left left_now faults faults_now before now (Ok outcome) =
-    (taken : List ℕ) × Took words taken left left_now × HasRead (command_of words) taken left_now × Wants disk (command_of words) taken before now outcome
+    (taken : List ℕ) × Took words taken left left_now × HasRead words taken left_now × Wants disk words taken before now outcome
 Prepares disk words left left_now faults faults_now before now (Err ReadFault) =
     (taken : List ℕ) × Took words taken left left_now × IsWithin (command_of words) taken × Rose faults faults_now × AreSame before now
 Prepares disk words left left_now faults faults_now before now (Err DiskFault) =
-    (taken : List ℕ) × Took words taken left left_now × HasRead (command_of words) taken left_now × RealRose disk before now
+    (taken : List ℕ) × Took words taken left left_now × HasRead words taken left_now × RealRose disk before now
 Prepares disk words left left_now faults faults_now before now (Err NoMemory) =
     (taken : List ℕ) × Took words taken left left_now
 
@@ -58,3 +60,13 @@ is_unread (Ok outcome) = false
 is_unread (Err ReadFault) = true
 is_unread (Err DiskFault) = false
 is_unread (Err NoMemory) = false
+
+-- what was done of a filter and a document, which calls no disk
+abbrev pub MatchPrepares : List (List ℕ) → Option (List ℕ) → Option (List ℕ) → ℕ → ℕ → Result Outcome Hindrance → Type 0
+MatchPrepares words left left_now faults faults_now (Ok outcome) =
+    (taken : List ℕ) × Took words taken left left_now × HasRead words taken left_now × Matches (filter_of words) taken outcome
+MatchPrepares words left left_now faults faults_now (Err ReadFault) =
+    (taken : List ℕ) × Took words taken left left_now × IsWithin (command_of words) taken × Rose faults faults_now
+MatchPrepares words left left_now faults faults_now (Err DiskFault) = ⊥
+MatchPrepares words left left_now faults faults_now (Err NoMemory) =
+    (taken : List ℕ) × Took words taken left left_now

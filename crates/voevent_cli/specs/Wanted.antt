@@ -10,10 +10,11 @@ use Rattle.voe_scenario.specs.declared.scenario.Scenario.{Scenario}
 use Rattle.voevent_cli.specs.Documents.{WantedOf, checked, max_document, shown}
 use Rattle.voe_disk.specs.declared.disk.Disk.{Ghosts}
 use Rattle.voevent_cli.specs.Inits.{Inits}
+use Rattle.voevent_cli.specs.Matches.{Matches}
 use Rattle.voevent_cli.specs.Outcomes.{done, refused}
 use Rattle.voevent_cli.specs.Racks.{Disks, AreSame}
 use Rattle.voevent_cli.specs.declared.command.Command.{Command}
-use Rattle.voevent_cli.specs.declared.command.Command.TheVariants.{Net, Check, Show, Init}
+use Rattle.voevent_cli.specs.declared.command.Command.TheVariants.{Net, Check, Show, Match, Init}
 use Rattle.voevent_cli.specs.declared.outcome.Status.{Status}
 use Rattle.voevent_cli.specs.declared.outcome.Status.TheVariants.{Done, Usage, Refused, ReadFault, WriteFault, DiskFault, NoMemory, JournalRefused}
 use Rattle.voevent_cli.specs.declared.outcome.Outcome.{Outcome}
@@ -43,13 +44,20 @@ command_named word =
 -- the command that the words are, if they are one
 abbrev pub command_of : List (List ℕ) → Option Command
 command_of (word ∷ []) = command_named word
+command_of (word ∷ (filter ∷ [])) = cond (bytes_eq word (codes "match")) (Some Match) None
 command_of _ = None
+
+-- the second word: the text of a filter
+abbrev pub filter_of : List (List ℕ) → List ℕ
+filter_of (word ∷ (filter ∷ words)) = filter
+filter_of _ = []
 
 -- the greatest number of bytes of a command's input
 abbrev pub limit_of : Command → ℕ
 limit_of Net = 33554432
 limit_of Check = max_document
 limit_of Show = max_document
+limit_of Match = max_document
 limit_of Init = 33554432
 
 -- ---- `net`
@@ -71,14 +79,19 @@ wanted_of_net input = reported (scenario_of input)
 abbrev pub usage : Outcome
 usage = record { status = Usage; output = codes "refused usage\n" }
 
--- the outcome that a command has for an input, and what it does to the disks
-abbrev pub Acts : {T D : Type 0} → Ghosts D → Command → List ℕ → Disks T D → Disks T D → Outcome → Type 0
-Acts disk Net input before now outcome = (outcome ≡ wanted_of_net input) × AreSame before now
-Acts disk Check input before now outcome = WantedOf checked input outcome × AreSame before now
-Acts disk Show input before now outcome = WantedOf shown input outcome × AreSame before now
-Acts disk Init input before now outcome = Inits disk input before now outcome
+-- the outcome that a command line has for an input, and what it does to the disks
+abbrev pub Acts : {T D : Type 0} → Ghosts D → List (List ℕ) → Command → List ℕ → Disks T D → Disks T D → Outcome → Type 0
+Acts disk words Net input before now outcome = (outcome ≡ wanted_of_net input) × AreSame before now
+Acts disk words Check input before now outcome = WantedOf checked input outcome × AreSame before now
+Acts disk words Show input before now outcome = WantedOf shown input outcome × AreSame before now
+Acts disk words Match input before now outcome = Matches (filter_of words) input outcome × AreSame before now
+Acts disk words Init input before now outcome = Inits disk input before now outcome
 
--- what is wanted of a command line, by the command that it is, if it is one
-abbrev pub Wants : {T D : Type 0} → Ghosts D → Option Command → List ℕ → Disks T D → Disks T D → Outcome → Type 0
-Wants disk None input before now outcome = (outcome ≡ usage) × AreSame before now
-Wants disk (Some command) input before now outcome = Acts disk command input before now outcome
+-- the same by the command that it is, if it is one
+abbrev pub ActsAs : {T D : Type 0} → Ghosts D → List (List ℕ) → Option Command → List ℕ → Disks T D → Disks T D → Outcome → Type 0
+ActsAs disk words None input before now outcome = (outcome ≡ usage) × AreSame before now
+ActsAs disk words (Some command) input before now outcome = Acts disk words command input before now outcome
+
+-- what is wanted of a command line
+abbrev pub Wants : {T D : Type 0} → Ghosts D → List (List ℕ) → List ℕ → Disks T D → Disks T D → Outcome → Type 0
+Wants disk words input before now outcome = ActsAs disk words (command_of words) input before now outcome

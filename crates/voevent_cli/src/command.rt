@@ -14,6 +14,8 @@ pub enum Command {
     Check,
     /// `show`: shows what a packet or a Transport message says.
     Show,
+    /// `match` and a filter: says whether the filter passes a document.
+    Match,
     /// `init`: makes the journal of a node from its configuration.
     Init,
 }
@@ -25,6 +27,7 @@ impl Command {
     {
         match words {
             [word] => Command::named(word.as_str()),
+            [word, _] if word.as_str() == "match" => Some(Command::Match),
             _ => None,
         }
     }
@@ -48,7 +51,7 @@ impl Command {
     {
         match self {
             Command::Net | Command::Init => 33_554_432,
-            Command::Check | Command::Show => 1_048_576,
+            Command::Check | Command::Show | Command::Match => 1_048_576,
         }
     }
 }

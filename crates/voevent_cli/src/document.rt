@@ -3,6 +3,8 @@
 ghost use Rattle.std.specs.Prelude.{◌≡◌, ◌≤◌, IfOk, List, ℕ, length};
 ghost use Rattle.voe_tree.specs.Fault.{RefusesTree};
 ghost use Rattle.voe_tree.specs.declared.element.Element.{Element};
+ghost use Rattle.filter_text.specs.Filter.{Path};
+ghost use Rattle.voevent_cli.specs.Matches.{MatchedOf};
 ghost use Rattle.voevent_cli.specs.Documents.{WantedOf, place_of_fault};
 ghost use Rattle.voevent_cli.specs.declared.outcome.Outcome.{Outcome};
 
@@ -32,7 +34,8 @@ fn place_of(fault: TreeFault) -> Option<usize>
 
 /// What is answered to an input that is no document.
 pub(crate) fn refuse_tree(alloc: Global, fault: TreeFault) -> Result<Outcome, NoMemory>
-    ensures { IfOk result (λ outcome. (judged : Element → Outcome) (input : List ℕ) → length input ≤ 1048576 → RefusesTree input fault → WantedOf judged input outcome) }
+    ensures wanted { IfOk result (λ outcome. (judged : Element → Outcome) (input : List ℕ) → length input ≤ 1048576 → RefusesTree input fault → WantedOf judged input outcome) }
+    ensures matched { IfOk result (λ outcome. (f : Path) (input : List ℕ) → length input ≤ 1048576 → RefusesTree input fault → MatchedOf f input outcome) }
 {
     let Some(number) = fault_number(fault) else {
         return Err(NoMemory);

@@ -1,6 +1,6 @@
 //! The command `init`.
 
-ghost use Rattle.std.specs.Prelude.{◌≡◌, ◌⊎◌, ◌≤◌, true, None, Some, IfErr, IfOk, codes, length};
+ghost use Rattle.std.specs.Prelude.{◌≡◌, ◌⊎◌, ◌≤◌, ℕ, List, true, None, Some, IfErr, IfOk, codes, length};
 ghost use Rattle.node_notes.specs.Forms.{is_config};
 ghost use Rattle.voevent_cli.specs.Inits.{IsHindered, IsNoJournal, IsPossible, MakesOn, refusal_of_making};
 ghost use Rattle.voevent_cli.specs.Outcomes.{done, refused};
@@ -109,7 +109,7 @@ pub(crate) fn answer_of_init<R: Rack>(
 ) -> Result<Outcome, Hindrance>
     requires input { length input.now ≤ 33554432 }
     requires whole { IsWhole (disks (λ k. R.trial rack.old k) (R.real rack.old)) }
-    ensures acted { Acted R.Real.Disk Command.Init input.now (disks (λ k. R.trial rack.old k) (R.real rack.old)) (disks (λ k. R.trial rack.new k) (R.real rack.new)) result }
+    ensures acted { (words : List (List ℕ)) → Acted R.Real.Disk words Command.Init input.now (disks (λ k. R.trial rack.old k) (R.real rack.old)) (disks (λ k. R.trial rack.new k) (R.real rack.new)) result }
     ensures whole { IsWhole (disks (λ k. R.trial rack.new k) (R.real rack.new)) }
 {
     match read_config(alloc, input) {

@@ -2,9 +2,10 @@
 
 ghost use Rattle.std.specs.Prelude.{◌≡◌, List, ℕ};
 ghost use Rattle.voevent_cli.specs.Racks.{Disks, TellsReal};
-ghost use Rattle.voevent_cli.specs.Wanted.{Wants, command_of};
+ghost use Rattle.voevent_cli.specs.Wanted.{Wants};
 ghost use Rattle.voevent_cli.specs.declared.outcome.Outcome.{Outcome};
 
+use filter_text::laws::{filters_are_unique, read_is_not_refused, refusals_are_unique};
 use gate_journal::one_reading;
 use voe_disk::Rack;
 use voe_scenario::laws::texts_are_one_config;
@@ -13,8 +14,11 @@ use voe_scenario::laws::texts_are_one_config;
 /// the status and the bytes to write are determined.
 pub fn outcomes_are_unique<R: Rack>()
     ensures { (words : List (List ℕ)) (input : List ℕ) (before now later : Disks R.Trial R.Real) (one other : Outcome) → TellsReal R.Real.Disk before
-        → Wants R.Real.Disk (command_of words) input before now one → Wants R.Real.Disk (command_of words) input before later other → one ≡ other }
+        → Wants R.Real.Disk words input before now one → Wants R.Real.Disk words input before later other → one ≡ other }
 {
+    filters_are_unique();
     one_reading();
+    read_is_not_refused();
+    refusals_are_unique();
     texts_are_one_config();
 }

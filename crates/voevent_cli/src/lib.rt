@@ -9,6 +9,7 @@ mod command;
 mod document;
 mod init;
 pub mod laws;
+mod matching;
 mod net;
 mod outcome;
 mod prepare;

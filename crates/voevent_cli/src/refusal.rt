@@ -24,6 +24,8 @@ pub enum Refusal {
     NoOrigin,
     /// S01 to S06: a line of the scenario, or of the configuration, is refused.
     Scenario { number: u8, line: u32 },
+    /// P1 to P6: the text of a filter is refused, at this byte.
+    Filter { number: u8, place: usize },
     /// G2: the disk holds another file, which differs from a journal first at this byte.
     Foreign { place: u64 },
     /// G3: the disk holds a journal that is damaged behind the gate at this byte.
@@ -55,6 +57,10 @@ impl Refusal {
                 out.extend(b"S0")?;
                 add_number(alloc, out, number as usize)
             }
+            Refusal::Filter { number, .. } => {
+                out.extend(b"P")?;
+                add_number(alloc, out, number as usize)
+            }
             Refusal::Foreign { .. } => out.extend(b"G2"),
             Refusal::Damaged { .. } => out.extend(b"G3"),
             Refusal::Made => out.extend(b"G5"),
@@ -76,6 +82,10 @@ impl Refusal {
             Refusal::Scenario { line, .. } => {
                 out.extend(b" line ")?;
                 add_number(alloc, out, line as usize)
+            }
+            Refusal::Filter { place, .. } => {
+                out.extend(b" at ")?;
+                add_number(alloc, out, place)
             }
             Refusal::Foreign { place } | Refusal::Damaged { place } => {
                 out.extend(b" at ")?;

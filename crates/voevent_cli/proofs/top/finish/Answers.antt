@@ -16,7 +16,7 @@ returns-in-Ok-write_all-clause-ends g c =
       gave = prepared.1.0;
       few = prepared.1.1;
       says = written g.R.Real.Disk c.args.words.now prepared.0 _ _ c.in-Ok.outcome.status
-          (wants_answers g.R.Real.Disk command prepared.0 _ _ c.in-Ok.outcome prepared.3)
+          (wants_answers g.R.Real.Disk c.args.words.now prepared.0 _ _ c.in-Ok.outcome prepared.3)
           (record {
             read = prepared.2;
             outcome = c.in-Ok.outcome;
@@ -30,9 +30,9 @@ returns-in-Ok-write_all-clause-ends g c =
 pub returns-in-Ok-write_all-clause-source_faults : goal.returns-in-Ok-write_all-clause-source_faults
 returns-in-Ok-write_all-clause-source_faults g c =
     let prepared = c.in-Ok.ensures.prepares in
-    rw ((answer_code c.in-Ok.outcome.status (wants_answers g.R.Real.Disk (command_of c.args.words.now) prepared.0 _ _ c.in-Ok.outcome prepared.3)).0) c.in-Ok.ensures.faults
+    rw ((answer_code c.in-Ok.outcome.status (wants_answers g.R.Real.Disk c.args.words.now prepared.0 _ _ c.in-Ok.outcome prepared.3)).0) c.in-Ok.ensures.faults
 
 pub returns-in-Ok-write_all-clause-sink_faults : goal.returns-in-Ok-write_all-clause-sink_faults
 returns-in-Ok-write_all-clause-sink_faults g c =
     let prepared = c.in-Ok.ensures.prepares in
-    rw ((answer_code c.in-Ok.outcome.status (wants_answers g.R.Real.Disk (command_of c.args.words.now) prepared.0 _ _ c.in-Ok.outcome prepared.3)).1) c.in-Ok-write_all.ensures.faults
+    rw ((answer_code c.in-Ok.outcome.status (wants_answers g.R.Real.Disk c.args.words.now prepared.0 _ _ c.in-Ok.outcome prepared.3)).1) c.in-Ok-write_all.ensures.faults
