@@ -1,0 +1,3 @@
+-- A broker.
+pub mod Broker
+pub mod Inside
