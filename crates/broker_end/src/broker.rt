@@ -5,6 +5,7 @@ ghost use Rattle.voe_disk.specs.declared.fail.DiskFail.{DiskFail as HowFailed};
 ghost use Rattle.voe_values.specs.declared.kind.NodeKind.TheVariants.{Broker};
 ghost use Rattle.gate_journal.specs.Device.{IsSameDisk};
 ghost use Rattle.net_model.specs.Rules.{NodeRules};
+ghost use Rattle.net_model.specs.Steps.{last_of};
 ghost use Rattle.node_notes.specs.Forms.{is_config};
 ghost use Rattle.path_filter.specs.Links.{AreReadable, HasRefused};
 
@@ -94,6 +95,13 @@ impl<D: Disk> BrokerEnd<D> {
         ensures { result.now ≡ book_of self.now }
     {
         self.end.book()
+    }
+
+    /// The number of a link's last session, 0 before the first.
+    pub fn last_session(&self, link: u16) -> u64
+        ensures { result ≡ last_of self.now.sessions link }
+    {
+        self.end.last_session(link as usize)
     }
 
     /// How many steps this end has made since it was made or loaded, up to 2^64 - 1.
