@@ -1,10 +1,4 @@
--- the definitions of the network that code steps
-pub mod Plain
-pub mod Index
-pub mod Replies
-pub mod Flights
-pub mod Start
-pub mod Owed
-pub mod Passed
-pub mod Report
-pub mod Whole
+-- A network over disks.
+pub mod Kept
+pub mod Nodes
+pub mod Right
