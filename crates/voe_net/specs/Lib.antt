@@ -2,3 +2,4 @@
 pub mod Kept
 pub mod Nodes
 pub mod Right
+pub mod Worked

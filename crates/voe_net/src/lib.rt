@@ -9,6 +9,7 @@ mod making;
 mod node_end;
 mod performing;
 mod stopping;
+mod working;
 
 pub use kept::Kept;
 pub use node_end::NodeEnd;
