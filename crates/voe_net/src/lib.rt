@@ -2,13 +2,17 @@
 #![tactic(auto)]
 
 mod asking;
+mod author_work;
+mod broker_work;
 mod crashing;
+mod heard;
 mod holding;
 mod kept;
 mod making;
 mod node_end;
 mod performing;
 mod stopping;
+mod subscriber_work;
 mod working;
 
 pub use kept::Kept;

@@ -130,7 +130,7 @@ impl<D: CrashDisk> NetEnd for NodeEnd<D> {
     }
 
     fn join(&mut self, number: u16) -> Result<u64, EndFault> {
-        join(self.alloc, &mut self.kept, number)
+        join(&mut self.kept, number)
     }
 
     fn crash(&mut self) -> Result<(), EndFault> {

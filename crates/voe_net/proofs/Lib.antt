@@ -1,0 +1,5 @@
+pub mod Told
+pub mod Rested
+pub mod Named
+pub mod Bringing
+pub mod Working
