@@ -2,4 +2,4 @@ pub mod Told
 pub mod Rested
 pub mod Named
 pub mod Bringing
-pub mod Working
+pub mod EndWorks

@@ -10,7 +10,7 @@ ghost use Rattle.voe_net.specs.Nodes.{show_up};
 ghost use Rattle.voe_net.specs.Told.{author_told};
 ghost use Rattle.voe_net.specs.Worked.{HasWorked};
 
-use crate::heard::heard;
+use crate::heard::hear_answer;
 use crate::working::Worked;
 use author_end::{AuthorEnd, AuthorEvent};
 use net_machine::Work;
@@ -60,7 +60,7 @@ fn hear<D: CrashDisk>(
     requires over { IsOver (show_up end.old None) line session }
     ensures { HasWorked D.Disk (Hear line session answer) end.old end.new result }
 {
-    match heard(alloc, &answer) {
+    match hear_answer(alloc, &answer) {
         Err(_) => Worked::NoMemory,
         Ok(None) => Worked::Answered { answer: None },
         Ok(Some(heard)) => told(end.step(AuthorEvent::Answer {

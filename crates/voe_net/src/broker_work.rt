@@ -11,7 +11,7 @@ ghost use Rattle.voe_net.specs.Nodes.{show_up};
 ghost use Rattle.voe_net.specs.Told.{broker_told};
 ghost use Rattle.voe_net.specs.Worked.{HasWorked};
 
-use crate::heard::heard;
+use crate::heard::hear_answer;
 use crate::working::Worked;
 use broker_end::{BrokerEnd, BrokerEvent, Way};
 use net_machine::Work;
@@ -67,7 +67,7 @@ fn hear<D: CrashDisk>(
     requires over { IsOver (show_up end.old None) link session }
     ensures { HasWorked D.Disk (Hear link session answer) end.old end.new result }
 {
-    match heard(alloc, &answer) {
+    match hear_answer(alloc, &answer) {
         Err(_) => Worked::NoMemory,
         Ok(None) => Worked::Answered { answer: None },
         Ok(Some(heard)) => {

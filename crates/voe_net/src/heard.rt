@@ -16,7 +16,7 @@ pub struct Heard {
 }
 
 /// What an answer says, where it names a packet by an identifier.
-pub fn heard(alloc: Global, answer: &Verdict) -> Result<Option<Heard>, NoMemory>
+pub fn hear_answer(alloc: Global, answer: &Verdict) -> Result<Option<Heard>, NoMemory>
     ensures { IfOk result (λ heard. heard ≡ heard_of answer.now) }
 {
     match answer {

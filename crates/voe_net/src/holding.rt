@@ -18,7 +18,7 @@ use net_model::{Judged, Note};
 use node_book::Book;
 use std::alloc::Global;
 use voe_disk::CrashDisk;
-use voe_validity::judge;
+use voe_validity::{Judging, judge};
 use voe_values::{Bytes, NoMemory, NodeKind};
 
 /// Tells whether the packet is bad or has an identifier that the node doesn't hold.
@@ -32,8 +32,8 @@ pub fn is_new<D: CrashDisk>(
         → IsRight (show (option_map end_of kept.now)).config packets rules
         → new ≡ is_new_identifier (show (option_map end_of kept.now)).notes (rules.judge packet.now)) }
 {
-    let judging = judge(alloc, packet.as_slice())?;
-    match judging.judged {
+    let Judging { judged, .. } = judge(alloc, packet.as_slice())?;
+    match judged {
         Judged::Good { identifier } => Ok(!knows(kept, &identifier)),
         _ => Ok(true),
     }
