@@ -1,7 +1,10 @@
 -- Of an input one outcome is wanted.
-use Rattle.std.proofs.Common.{◌≡◌, ◌⊎◌, inl, inr, ℕ, Bool, true, false, List, [], Result, Ok, Err, Some, None, refl, sym, ◌∙◌, ap, subst, arith}
+use Rattle.std.proofs.Common.{◌≡◌, ◌⊎◌, inl, inr, ℕ, zero, suc, ◌<◌, Bool, true, false, Decides, List, [], ◌∷◌, length, slice_get, Result, Ok, Err, Some, None, refl, sym, ◌∙◌, ap, subst, arith}
 use Rattle.std.specs.declared.option.Option.{Option}
 use Rattle.std.specs.Prelude.{cond, IfSome}
+use Rattle.std.specs.Str.{bytes_eq}
+use Rattle.std.proofs.lemmas.Bool.{false≢true}
+use Rattle.std.proofs.lemmas.Slice.Eq.{bytes_eq-Decides}
 use Rattle.xml_lexer.specs.Characters.{Text}
 use Rattle.xml_lexer.specs.Token.{Token}
 use Rattle.xml_lexer.specs.Phases.{without_mark, IsTokensOf, RefusesText, RefusesToken, RefusesMany}
@@ -28,8 +31,20 @@ use Rattle.node_notes.specs.declared.config.Config.{Config}
 use Rattle.voe_disk.specs.declared.disk.Disk.{Ghosts}
 use Rattle.voe_scenario.specs.Configs.{IsConfigOf}
 use Rattle.voe_scenario.specs.Lines.{Refusal as BadLine}
+use Rattle.voe_scenario.specs.Scenarios.{AreAlike, IsAlike, IsScenarioOf}
+use Rattle.voe_scenario.specs.Shapes.{config_of, shape}
+use Rattle.voe_scenario.specs.declared.scenario.Scenario.{Scenario}
+use Rattle.net_model.specs.Rules.{Rules, rules_at}
+use Rattle.net_model.specs.Runs.{after}
+use Rattle.net_model.specs.declared.scenario.Event.{Event}
+use Rattle.net_model.specs.declared.scenario.Graph.{Graph}
+use Rattle.net_machine.specs.Report.{report_of}
+use Rattle.voe_net.specs.Right.{IsRight}
+use Rattle.voe_net.specs.Starting.{AllBlank, AllTellImages, IsFirstMade}
+use Rattle.voevent_cli.specs.declared.outcome.Status.{Status}
 use Rattle.voevent_cli.specs.Inits.{Inits, MakesOn, refusal_of_making}
-use Rattle.voevent_cli.specs.Racks.{Disks, TellsReal}
+use Rattle.voevent_cli.specs.Nets.{AreRightFor, Nets, Runs, node_count}
+use Rattle.voevent_cli.specs.Racks.{AreFirst, Disks, TellsReal, TellsTrials}
 use Rattle.voevent_cli.specs.declared.refusal.Refusal.{Refusal}
 use Rattle.filter_text.specs.Filter.{Path}
 use Rattle.filter_text.specs.Reading.{Reads}
@@ -42,8 +57,8 @@ use Rattle.voevent_cli.specs.Wanted.{Acts, ActsAs, Wants, command_of, filter_of}
 use Rattle.voevent_cli.specs.declared.command.Command.{Command}
 use Rattle.voevent_cli.specs.declared.command.Command.TheVariants.{Net, Check, Show, Match, Init}
 use Rattle.voevent_cli.specs.declared.outcome.Outcome.{Outcome}
-use Rattle.voevent_cli.specs.declared.refusal.Refusal.TheVariants.{Tree, Scenario}
-use Rattle.voevent_cli.specs.Outcomes.{refused}
+use Rattle.voevent_cli.specs.declared.refusal.Refusal.TheVariants.{Tree, MadeAt, Scenario as Scenario_line}
+use Rattle.voevent_cli.specs.Outcomes.{done, refused}
 
 abbrev number_of_rule : Rule → ℕ
 number_of_rule unbalanced = 5
@@ -271,8 +286,8 @@ OneConfig = (text : List ℕ) (a b : Result Config BadLine) → IsConfigOf text 
 abbrev refused_at : BadLine → Result Config BadLine
 refused_at line = Err line
 
-same_line : (a b : BadLine) → refused_at a ≡ refused_at b → refused (Scenario a.number a.line) ≡ refused (Scenario b.number b.line)
-same_line a b same = let lines : a ≡ b = cc in ap (λ (l : BadLine). refused (Scenario l.number l.line)) lines
+same_line : (a b : BadLine) → refused_at a ≡ refused_at b → refused (Scenario_line a.number a.line) ≡ refused (Scenario_line b.number b.line)
+same_line a b same = let lines : a ≡ b = cc in ap (λ (l : BadLine). refused (Scenario_line l.number l.line)) lines
 
 inits_once : {T D : Type 0} (disk : Ghosts D) → FileLaws → OneConfig → (input : List ℕ) (before now later : Disks T D) (a b : Outcome) → TellsReal disk before
     → Inits disk input before now a → Inits disk input before later b → a ≡ b
@@ -328,19 +343,122 @@ matches_once laws text input a b (inr (f, reads, m)) (inl (refusal, is, e)) = ab
 matches_once laws text input a b (inr (f, reads, (document, is, m))) (inr (g, also, (other, so, k))) =
     same_matched f input document other a b is so m (subst (λ h. IsMatched h other b) (laws.one_filter text g f also reads) k)
 
-same_acts : {T D : Type 0} (disk : Ghosts D) → FileLaws → OneConfig → FilterLaws → (words : List (List ℕ)) (command : Command) (input : Text) (before now later : Disks T D) (a b : Outcome) → TellsReal disk before
-    → Acts disk words command input before now a → Acts disk words command input before later b → a ≡ b
-same_acts disk laws one_config filters words Net input before now later a b told one other = one.0 ∙ sym other.0
-same_acts disk laws one_config filters words Check input before now later a b told one other = same_of checked input a b one.0 other.0
-same_acts disk laws one_config filters words Show input before now later a b told one other = same_of shown input a b one.0 other.0
-same_acts disk laws one_config filters words Match input before now later a b told one other = matches_once filters (filter_of words) input a b one.0 other.0
-same_acts disk laws one_config filters words Init input before now later a b told one other = inits_once disk laws one_config input before now later a b told one other
+-- ---- networks
 
-same_as : {T D : Type 0} (disk : Ghosts D) → FileLaws → OneConfig → FilterLaws → (words : List (List ℕ)) (command : Option Command) (input : List ℕ) (before now later : Disks T D) (a b : Outcome)
-    → TellsReal disk before → ActsAs disk words command input before now a → ActsAs disk words command input before later b → a ≡ b
-same_as disk laws one_config filters words None input before now later a b told one other = one.0 ∙ sym other.0
-same_as disk laws one_config filters words (Some command) input before now later a b told one other = same_acts disk laws one_config filters words command input before now later a b told one other
+-- a text is one scenario but for how its filters lie in memory, or has one refused line
+abbrev OneScenario : Type 0
+OneScenario = (text : List ℕ) (a b : Result Scenario BadLine) → IsScenarioOf text a → IsScenarioOf text b → AreAlike a b
 
-pub wanted_once : {T D : Type 0} (disk : Ghosts D) → FileLaws → OneConfig → FilterLaws → (words : List (List ℕ)) (input : List ℕ) (before now later : Disks T D) (a b : Outcome)
-    → TellsReal disk before → Wants disk words input before now a → Wants disk words input before later b → a ≡ b
-wanted_once disk laws one_config filters words input before now later a b told one other = same_as disk laws one_config filters words (command_of words) input before now later a b told one other
+by_test : (r : Bool) (P : Type 0) → Decides r P → ((P → ⊥) → ⊥) → P
+by_test true P is never = is.0 refl
+by_test false P is never = absurd (never (λ p. false≢true (is.1 p)))
+
+-- bytes that cannot differ are the same
+not_apart : (a b : List ℕ) → ((a ≡ b → ⊥) → ⊥) → a ≡ b
+not_apart a b never = by_test (bytes_eq a b) (a ≡ b) (bytes_eq-Decides a b) never
+
+outcome_of : (a b : Outcome) → a.status ≡ b.status → a.output ≡ b.output → a ≡ b
+outcome_of a b statuses outputs =
+    let with_status : Status → Outcome = λ s. record { status = s; output = a.output } in
+    let with_output : List ℕ → Outcome = λ o. record { status = b.status; output = o } in
+    ap with_status statuses ∙ ap with_output outputs
+
+get_within : {X : Type 0} (xs : List X) (k : ℕ) (x : X) → slice_get xs k ≡ Some x → k < length xs
+get_within [] k x e = absurd (none_is_not_some e)
+get_within (y ∷ ys) zero x e = omega arith
+get_within (y ∷ ys) (suc k) x e = let rest = get_within ys k x e in omega arith
+
+same_lists : {X : Type 0} (xs ys : List X) → length xs ≡ length ys → ((k : ℕ) → k < length xs → slice_get xs k ≡ slice_get ys k) → xs ≡ ys
+same_lists [] [] count each = refl
+same_lists [] (y ∷ ys) count each = absurd (omega arith)
+same_lists (x ∷ xs) [] count each = absurd (omega arith)
+same_lists (x ∷ xs) (y ∷ ys) count each =
+    let first : Some x ≡ Some y = each 0 (omega arith) in
+    let others : xs ≡ ys = same_lists xs ys (omega arith) (λ k lt. each (suc k) (omega arith)) in
+    cc
+
+told_all : {T D : Type 0} (disk : Ghosts T) (rack : Disks T D) (old : List T) → TellsTrials disk rack → AreFirst rack old → AllTellImages disk old
+told_all disk rack old tells were k own is = tells k own (were k (get_within old k own is) ∙ is)
+
+-- below the first disk on which something stands there is none such
+not_below : {T : Type 0} (disk : Ghosts T) (old : List T) (a b : ℕ) → IsFirstMade disk old a → IsFirstMade disk old b → a < b → ⊥
+not_below disk old a b one other below = one.made (other.before a one.own below one.there)
+
+one_first : {T : Type 0} (disk : Ghosts T) (old : List T) (a b : ℕ) → IsFirstMade disk old a → IsFirstMade disk old b → a ≡ b
+one_first disk old a b one other =
+    let below = not_below disk old a b one other in
+    let above = not_below disk old b a other one in
+    omega arith
+
+not_made : {T : Type 0} (disk : Ghosts T) (old : List T) (node : ℕ) → AllBlank disk old → IsFirstMade disk old node → ⊥
+not_made disk old node blank first = first.made (blank node first.own first.there)
+
+-- the report of a run
+abbrev reported : Rules → Graph → List (List ℕ) → List Event → Outcome
+reported rules graph packets events = done (report_of graph (after rules graph packets events))
+
+same_reported : (rules : Rules) (s t : Scenario) → IsAlike s t → reported rules (shape s.graph) s.packets s.events ≡ reported rules (shape t.graph) t.packets t.events
+same_reported rules s t alike =
+    ap (λ (g : Graph). reported rules g s.packets s.events) alike.shape ∙ ap (λ (p : List (List ℕ)). reported rules (shape t.graph) p s.events) alike.packets
+    ∙ ap (λ (e : List Event). reported rules (shape t.graph) t.packets e) alike.events
+
+same_count : (s t : Scenario) → IsAlike s t → node_count s ≡ node_count t
+same_count s t alike = ap (λ (g : Graph). length g.nodes) alike.shape
+
+right_alike : (rules : Rules) (s t : Scenario) → IsAlike s t → AreRightFor s rules → AreRightFor t rules
+right_alike rules s t alike right n below =
+    let counts = same_count s t alike in
+    subst (λ (c : Config). IsRight c t.packets (rules_at rules n)) (alike.config n)
+    (subst (λ (p : List (List ℕ)). IsRight (config_of s.graph n) p (rules_at rules n)) alike.packets (right n (omega arith)))
+
+runs_once : {T : Type 0} (disk : Ghosts T) (s t : Scenario) → IsAlike s t → (old one two : List T) (a b : Outcome) → AllTellImages disk old
+    → Runs disk s a old one → Runs disk t b old two → a ≡ b
+runs_once disk s t alike old one two a b tells (inl run) (inl again) =
+    outcome_of a b (run.status ∙ sym again.status) (not_apart a.output b.output (λ apart. run.right (λ rules right.
+        let first = (run.exact tells rules right).reports in
+        let second = (again.exact tells rules (right_alike rules s t alike right)).reports in
+        apart (ap (λ (o : Outcome). o.output) (first ∙ same_reported rules s t alike ∙ sym second)))))
+runs_once disk s t alike old one two a b tells (inl run) (inr again) = absurd (not_made disk old again.node run.blank again.first)
+runs_once disk s t alike old one two a b tells (inr run) (inl again) = absurd (not_made disk old run.node again.blank run.first)
+runs_once disk s t alike old one two a b tells (inr run) (inr again) =
+    run.shown ∙ ap (λ (n : ℕ). refused (MadeAt n)) (one_first disk old run.node again.node run.first again.first) ∙ sym again.shown
+
+-- the first disks of a rack are the same, however they are told
+same_first : {T D : Type 0} (rack : Disks T D) (one two : List T) → length one ≡ length two → AreFirst rack one → AreFirst rack two → one ≡ two
+same_first rack one two count first second = same_lists one two count (λ k lt. sym (first k lt) ∙ second k (omega arith))
+
+nets_once : {T D : Type 0} (disk : Ghosts T) → OneScenario → (input : List ℕ) (before now later : Disks T D) (a b : Outcome) → TellsTrials disk before
+    → Nets disk input before now a → Nets disk input before later b → a ≡ b
+nets_once disk one_scenario input before now later a b tells (inl (line, is, same, still)) (inl (other, also, too, stays)) =
+    same ∙ ap (λ (l : BadLine). refused (Scenario_line l.number l.line)) (one_scenario input (Err line) (Err other) is also) ∙ sym too
+nets_once disk one_scenario input before now later a b tells (inl (line, is, same, still)) (inr (s, also, on)) =
+    absurd (one_scenario input (Err line) (Ok s) is also)
+nets_once disk one_scenario input before now later a b tells (inr (s, is, on)) (inl (line, also, same, still)) =
+    absurd (one_scenario input (Ok s) (Err line) is also)
+nets_once disk one_scenario input before now later a b tells (inr (s, is, on)) (inr (t, also, again)) =
+    let alike = one_scenario input (Ok s) (Ok t) is also in
+    let count = same_count s t alike in
+    let same : on.old ≡ again.old = same_first before on.old again.old (on.old_count ∙ count ∙ sym again.old_count) on.were again.were in
+    runs_once disk s t alike on.old on.new again.new a b (told_all disk before on.old tells on.were) on.changes
+    (subst (λ l. Runs disk t b l again.new) (sym same) again.changes)
+
+-- ---- all commands
+
+same_acts : {T D : Type 0} (trial : Ghosts T) (real : Ghosts D) → FileLaws → OneConfig → OneScenario → FilterLaws → (words : List (List ℕ)) (command : Command) (input : Text) (before now later : Disks T D) (a b : Outcome)
+    → TellsTrials trial before → TellsReal real before → Acts trial real words command input before now a → Acts trial real words command input before later b → a ≡ b
+same_acts trial real laws one_config one_scenario filters words Net input before now later a b tells told one other = nets_once trial one_scenario input before now later a b tells one other
+same_acts trial real laws one_config one_scenario filters words Check input before now later a b tells told one other = same_of checked input a b one.0 other.0
+same_acts trial real laws one_config one_scenario filters words Show input before now later a b tells told one other = same_of shown input a b one.0 other.0
+same_acts trial real laws one_config one_scenario filters words Match input before now later a b tells told one other = matches_once filters (filter_of words) input a b one.0 other.0
+same_acts trial real laws one_config one_scenario filters words Init input before now later a b tells told one other = inits_once real laws one_config input before now later a b told one other
+
+same_as : {T D : Type 0} (trial : Ghosts T) (real : Ghosts D) → FileLaws → OneConfig → OneScenario → FilterLaws → (words : List (List ℕ)) (command : Option Command) (input : List ℕ) (before now later : Disks T D) (a b : Outcome)
+    → TellsTrials trial before → TellsReal real before → ActsAs trial real words command input before now a → ActsAs trial real words command input before later b → a ≡ b
+same_as trial real laws one_config one_scenario filters words None input before now later a b tells told one other = one.0 ∙ sym other.0
+same_as trial real laws one_config one_scenario filters words (Some command) input before now later a b tells told one other =
+    same_acts trial real laws one_config one_scenario filters words command input before now later a b tells told one other
+
+pub wanted_once : {T D : Type 0} (trial : Ghosts T) (real : Ghosts D) → FileLaws → OneConfig → OneScenario → FilterLaws → (words : List (List ℕ)) (input : List ℕ) (before now later : Disks T D) (a b : Outcome)
+    → TellsTrials trial before → TellsReal real before → Wants trial real words input before now a → Wants trial real words input before later b → a ≡ b
+wanted_once trial real laws one_config one_scenario filters words input before now later a b tells told one other =
+    same_as trial real laws one_config one_scenario filters words (command_of words) input before now later a b tells told one other

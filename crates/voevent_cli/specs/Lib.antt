@@ -5,6 +5,9 @@ pub mod Outcomes
 pub mod Documents
 pub mod Inits
 pub mod Matches
+pub mod Nets
+pub mod Lending
+pub mod Hindered
 pub mod Wanted
 pub mod Safety
 pub mod Answers

@@ -2,7 +2,7 @@
 use Rattle.std.specs.Prelude.{ℕ, ◌/◌, ◌%◌, List, [], ◌∷◌, ◌++◌, Some, None, codes}
 use Rattle.std.specs.Fmt.{decimal}
 use Rattle.voevent_cli.specs.declared.refusal.Refusal.{Refusal}
-use Rattle.voevent_cli.specs.declared.refusal.Refusal.TheVariants.{TooLong, Tree, Validity, BadRole, NoOrigin, Scenario, Filter, Foreign, Damaged, Made}
+use Rattle.voevent_cli.specs.declared.refusal.Refusal.TheVariants.{TooLong, Tree, Validity, BadRole, NoOrigin, Scenario, Filter, Foreign, Damaged, Made, MadeAt}
 use Rattle.voevent_cli.specs.declared.outcome.Status.{Status}
 use Rattle.voevent_cli.specs.declared.outcome.Status.TheVariants.{Refused, JournalRefused}
 
@@ -22,8 +22,9 @@ code_of_refusal (Filter number place) = codes "P" ++ decimal number
 code_of_refusal (Foreign place) = codes "G2"
 code_of_refusal (Damaged place) = codes "G3"
 code_of_refusal Made = codes "G5"
+code_of_refusal (MadeAt node) = codes "G5"
 
--- where, for the rules that have a byte or a token, or a line
+-- where, for the rules that have a byte or a token, a line, or a node
 abbrev pub place_of_refusal : Refusal → List ℕ
 place_of_refusal TooLong = []
 place_of_refusal (Tree number None) = []
@@ -36,6 +37,7 @@ place_of_refusal (Filter number place) = codes " at " ++ decimal place
 place_of_refusal (Foreign place) = codes " at " ++ decimal place
 place_of_refusal (Damaged place) = codes " at " ++ decimal place
 place_of_refusal Made = []
+place_of_refusal (MadeAt node) = codes " node " ++ decimal node
 
 -- how the program ends: the input is refused, or what a disk holds
 abbrev pub status_of_refusal : Refusal → Status
@@ -49,6 +51,7 @@ status_of_refusal (Filter number place) = Refused
 status_of_refusal (Foreign place) = JournalRefused
 status_of_refusal (Damaged place) = JournalRefused
 status_of_refusal Made = JournalRefused
+status_of_refusal (MadeAt node) = JournalRefused
 
 -- the line that says why an input is refused
 abbrev pub refusal_line : Refusal → List ℕ

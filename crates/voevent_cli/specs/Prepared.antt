@@ -4,18 +4,19 @@ use Rattle.std.specs.declared.option.Option.{Option}
 use Rattle.voe_disk.specs.declared.disk.Disk.{Ghosts}
 use Rattle.voe_outside.specs.Causes.{Rose}
 use Rattle.voe_outside.specs.Whole.{Gave}
-use Rattle.voevent_cli.specs.Racks.{Disks, AreSame, RealRose}
+use Rattle.voevent_cli.specs.Racks.{Disks, AreSame}
 use Rattle.voevent_cli.specs.declared.command.Command.{Command}
 use Rattle.voevent_cli.specs.declared.outcome.Outcome.{Outcome}
 use Rattle.voevent_cli.specs.declared.prepare.Hindrance.{Hindrance}
 use Rattle.voevent_cli.specs.declared.prepare.Hindrance.TheVariants.{ReadFault, DiskFault, NoMemory}
 use Rattle.voe_scenario.specs.Configs.{IsConfigOf}
 use Rattle.voe_scenario.specs.Lines.{Refusal as BadLine}
+use Rattle.voe_scenario.specs.Scenarios.{IsScenarioOf}
 use Rattle.voevent_cli.specs.Outcomes.{refused}
 use Rattle.voevent_cli.specs.declared.refusal.Refusal.TheVariants.{Scenario}
 use Rattle.voevent_cli.specs.Documents.{WantedOf, checked, shown}
 use Rattle.voevent_cli.specs.Matches.{Matches}
-use Rattle.voevent_cli.specs.Wanted.{Acts, Wants, command_of, filter_of, limit_of, wanted_of_net}
+use Rattle.voevent_cli.specs.Wanted.{Acts, Wants, DiskRose, command_of, filter_of, limit_of}
 use Rattle.voevent_cli.specs.declared.command.Command.TheVariants.{Net, Check, Show, Match, Init}
 use Rattle.voevent_cli.specs.Answers.{HasRead, IsWithin, most_of}
 
@@ -25,33 +26,34 @@ Took words taken before now = Gave taken before now × (length taken ≤ most_of
 
 -- the outcome that a command has for every input above its limit, where it does nothing to the disks
 abbrev pub IsWantedAbove : Command → Outcome → Type 0
-IsWantedAbove Net outcome = (input : List ℕ) → limit_of Net < length input → outcome ≡ wanted_of_net input
+IsWantedAbove Net outcome =
+    (line : BadLine) × (outcome ≡ refused (Scenario line.number line.line)) × ((input : List ℕ) → limit_of Net < length input → IsScenarioOf input (Err line))
 IsWantedAbove Check outcome = (input : List ℕ) → limit_of Check < length input → WantedOf checked input outcome
 IsWantedAbove Show outcome = (input : List ℕ) → limit_of Show < length input → WantedOf shown input outcome
 IsWantedAbove Match outcome = ⊥
 IsWantedAbove Init outcome =
     (line : BadLine) × (outcome ≡ refused (Scenario line.number line.line)) × ((input : List ℕ) → limit_of Init < length input → IsConfigOf input (Err line))
 
--- why a command did not do what it is for: the real disk's count of faults rose, or there was no memory
-abbrev pub IsHinderedRack : {T D : Type 0} → Ghosts D → Disks T D → Disks T D → Hindrance → Type 0
-IsHinderedRack disk before now ReadFault = ⊥
-IsHinderedRack disk before now DiskFault = RealRose disk before now
-IsHinderedRack disk before now NoMemory = Unit {0}
+-- why a command did not do what it is for: the count of faults of a disk that it calls rose, or there was no memory
+abbrev pub IsHinderedRack : {T D : Type 0} → Ghosts T → Ghosts D → Command → Disks T D → Disks T D → Hindrance → Type 0
+IsHinderedRack trial real command before now ReadFault = ⊥
+IsHinderedRack trial real command before now DiskFault = DiskRose trial real (Some command) before now
+IsHinderedRack trial real command before now NoMemory = Unit {0}
 
 -- what a command did with its whole input
-abbrev pub Acted : {T D : Type 0} → Ghosts D → List (List ℕ) → Command → List ℕ → Disks T D → Disks T D → Result Outcome Hindrance → Type 0
-Acted disk words command input before now (Ok outcome) = Acts disk words command input before now outcome
-Acted disk words command input before now (Err hindrance) = IsHinderedRack disk before now hindrance
+abbrev pub Acted : {T D : Type 0} → Ghosts T → Ghosts D → List (List ℕ) → Command → List ℕ → Disks T D → Disks T D → Result Outcome Hindrance → Type 0
+Acted trial real words command input before now (Ok outcome) = Acts trial real words command input before now outcome
+Acted trial real words command input before now (Err hindrance) = IsHinderedRack trial real command before now hindrance
 
 -- what was done of the words
-abbrev pub Prepares : {T D : Type 0} → Ghosts D → List (List ℕ) → Option (List ℕ) → Option (List ℕ) → ℕ → ℕ → Disks T D → Disks T D → Result Outcome Hindrance → Type 0
-Prepares disk words left left_now faults faults_now before now (Ok outcome) =
-    (taken : List ℕ) × Took words taken left left_now × HasRead words taken left_now × Wants disk words taken before now outcome
-Prepares disk words left left_now faults faults_now before now (Err ReadFault) =
+abbrev pub Prepares : {T D : Type 0} → Ghosts T → Ghosts D → List (List ℕ) → Option (List ℕ) → Option (List ℕ) → ℕ → ℕ → Disks T D → Disks T D → Result Outcome Hindrance → Type 0
+Prepares trial real words left left_now faults faults_now before now (Ok outcome) =
+    (taken : List ℕ) × Took words taken left left_now × HasRead words taken left_now × Wants trial real words taken before now outcome
+Prepares trial real words left left_now faults faults_now before now (Err ReadFault) =
     (taken : List ℕ) × Took words taken left left_now × IsWithin (command_of words) taken × Rose faults faults_now × AreSame before now
-Prepares disk words left left_now faults faults_now before now (Err DiskFault) =
-    (taken : List ℕ) × Took words taken left left_now × HasRead words taken left_now × RealRose disk before now
-Prepares disk words left left_now faults faults_now before now (Err NoMemory) =
+Prepares trial real words left left_now faults faults_now before now (Err DiskFault) =
+    (taken : List ℕ) × Took words taken left left_now × HasRead words taken left_now × DiskRose trial real (command_of words) before now
+Prepares trial real words left left_now faults faults_now before now (Err NoMemory) =
     (taken : List ℕ) × Took words taken left left_now
 
 -- a read failed

@@ -1,5 +1,5 @@
 -- A rack of disks at one moment.
-use Rattle.std.specs.Prelude.{◌≡◌, ℕ, ◌<◌, List, Option, IsSome, Some}
+use Rattle.std.specs.Prelude.{◌≡◌, ℕ, ◌<◌, ◌≤◌, List, Option, IsSome, Some, length, slice_get}
 use Rattle.voe_disk.specs.Disk.{Rose}
 use Rattle.voe_disk.specs.declared.disk.Disk.{Ghosts}
 
@@ -26,6 +26,11 @@ abbrev pub RealRose : {T D : Type 0} → Ghosts D → Disks T D → Disks T D �
 RealRose disk before now =
     (old : _) × (new : _) × (before.real ≡ Some old) × (now.real ≡ Some new) × Rose (disk.faults old) (disk.faults new)
 
+-- the count of faults of a trial disk has risen
+abbrev pub TrialRose : {T D : Type 0} → Ghosts T → Disks T D → Disks T D → Type 0
+TrialRose disk before now =
+    (k : ℕ) × (old : _) × (new : _) × (before.trial k ≡ Some old) × (now.trial k ≡ Some new) × Rose (disk.faults old) (disk.faults new)
+
 -- the real disk is as this says, and the others are as they were
 pub record OnReal {T D : Type 0} (Changes : D → D → Type 0) (before now : Disks T D) : Type 0 where
   pub old : D
@@ -35,6 +40,26 @@ pub record OnReal {T D : Type 0} (Changes : D → D → Type 0) (before now : Di
   pub changes : Changes old new
   pub trials : (k : ℕ) → now.trial k ≡ before.trial k
 
+-- these are the first trial disks, in their order
+abbrev pub AreFirst : {T D : Type 0} → Disks T D → List T → Type 0
+AreFirst rack first = (k : ℕ) → k < length first → rack.trial k ≡ slice_get first k
+
+-- the first trial disks, so many, are as this says, and the others are as they were
+pub record OnTrials {T D : Type 0} (count : ℕ) (Changes : List T → List T → Type 0) (before now : Disks T D) : Type 0 where
+  pub old : List T
+  pub new : List T
+  pub old_count : length old ≡ count
+  pub new_count : length new ≡ count
+  pub were : AreFirst before old
+  pub are : AreFirst now new
+  pub changes : Changes old new
+  pub others : (k : ℕ) → count ≤ k → now.trial k ≡ before.trial k
+  pub real : now.real ≡ before.real
+
 -- the real disk tells what it reads
 abbrev pub TellsReal : {T D : Type 0} → Ghosts D → Disks T D → Type 0
 TellsReal disk rack = (real : _) → rack.real ≡ Some real → (file : List ℕ) × (disk.reads real ≡ Some file)
+
+-- each trial disk tells what a crash leaves of it
+abbrev pub TellsTrials : {T D : Type 0} → Ghosts T → Disks T D → Type 0
+TellsTrials disk rack = (k : ℕ) (trial : _) → rack.trial k ≡ Some trial → (fill : ℕ) → IsSome (disk.crash_image trial fill)

@@ -1,24 +1,17 @@
 -- What is wanted: a status and the bytes to write, for the words of a command line, the bytes of the input and the disks.
-use Rattle.std.specs.Prelude.{◌≡◌, ℕ, cond, List, [], ◌∷◌, Some, None, Result, Ok, Err, bytes_eq, codes}
+use Rattle.std.specs.Prelude.{◌≡◌, ℕ, cond, List, [], ◌∷◌, Some, None, bytes_eq, codes}
 use Rattle.std.specs.declared.option.Option.{Option}
-use Rattle.net_model.specs.Runs.{after}
-use Rattle.net_model.specs.declared.state.State.{State}
-use Rattle.voe_net.specs.Plain.{plain}
-use Rattle.voe_net.specs.Report.{report_of}
-use Rattle.voe_scenario.specs.Scenarios.{Refusal, scenario_of}
-use Rattle.voe_scenario.specs.declared.scenario.Scenario.{Scenario}
 use Rattle.voevent_cli.specs.Documents.{WantedOf, checked, max_document, shown}
 use Rattle.voe_disk.specs.declared.disk.Disk.{Ghosts}
 use Rattle.voevent_cli.specs.Inits.{Inits}
 use Rattle.voevent_cli.specs.Matches.{Matches}
-use Rattle.voevent_cli.specs.Outcomes.{done, refused}
-use Rattle.voevent_cli.specs.Racks.{Disks, AreSame}
+use Rattle.voevent_cli.specs.Nets.{Nets}
+use Rattle.voevent_cli.specs.Racks.{Disks, AreSame, RealRose, TrialRose}
 use Rattle.voevent_cli.specs.declared.command.Command.{Command}
 use Rattle.voevent_cli.specs.declared.command.Command.TheVariants.{Net, Check, Show, Match, Init}
 use Rattle.voevent_cli.specs.declared.outcome.Status.{Status}
 use Rattle.voevent_cli.specs.declared.outcome.Status.TheVariants.{Done, Usage, Refused, ReadFault, WriteFault, DiskFault, NoMemory, JournalRefused}
 use Rattle.voevent_cli.specs.declared.outcome.Outcome.{Outcome}
-use Rattle.voevent_cli.specs.declared.refusal.Refusal.TheVariants.{Scenario as BadLine}
 
 -- the exit status
 abbrev pub code_of : Status → ℕ
@@ -60,38 +53,33 @@ limit_of Show = max_document
 limit_of Match = max_document
 limit_of Init = 33554432
 
--- ---- `net`
-
--- the network after all events of a scenario
-abbrev pub final_state : Scenario → State
-final_state scenario = after plain scenario.graph scenario.packets scenario.events
-
--- the report of the run of a scenario, or the line that says why its text is refused
-abbrev pub reported : Result Scenario Refusal → Outcome
-reported (Ok scenario) = done (report_of scenario.graph (final_state scenario))
-reported (Err refusal) = refused (BadLine refusal.number refusal.line)
-
-unfoldable pub wanted_of_net : List ℕ → Outcome
-wanted_of_net input = reported (scenario_of input)
-
 -- ---- all commands
 
 abbrev pub usage : Outcome
 usage = record { status = Usage; output = codes "refused usage\n" }
 
 -- the outcome that a command line has for an input, and what it does to the disks
-abbrev pub Acts : {T D : Type 0} → Ghosts D → List (List ℕ) → Command → List ℕ → Disks T D → Disks T D → Outcome → Type 0
-Acts disk words Net input before now outcome = (outcome ≡ wanted_of_net input) × AreSame before now
-Acts disk words Check input before now outcome = WantedOf checked input outcome × AreSame before now
-Acts disk words Show input before now outcome = WantedOf shown input outcome × AreSame before now
-Acts disk words Match input before now outcome = Matches (filter_of words) input outcome × AreSame before now
-Acts disk words Init input before now outcome = Inits disk input before now outcome
+abbrev pub Acts : {T D : Type 0} → Ghosts T → Ghosts D → List (List ℕ) → Command → List ℕ → Disks T D → Disks T D → Outcome → Type 0
+Acts trial real words Net input before now outcome = Nets trial input before now outcome
+Acts trial real words Check input before now outcome = WantedOf checked input outcome × AreSame before now
+Acts trial real words Show input before now outcome = WantedOf shown input outcome × AreSame before now
+Acts trial real words Match input before now outcome = Matches (filter_of words) input outcome × AreSame before now
+Acts trial real words Init input before now outcome = Inits real input before now outcome
 
 -- the same by the command that it is, if it is one
-abbrev pub ActsAs : {T D : Type 0} → Ghosts D → List (List ℕ) → Option Command → List ℕ → Disks T D → Disks T D → Outcome → Type 0
-ActsAs disk words None input before now outcome = (outcome ≡ usage) × AreSame before now
-ActsAs disk words (Some command) input before now outcome = Acts disk words command input before now outcome
+abbrev pub ActsAs : {T D : Type 0} → Ghosts T → Ghosts D → List (List ℕ) → Option Command → List ℕ → Disks T D → Disks T D → Outcome → Type 0
+ActsAs trial real words None input before now outcome = (outcome ≡ usage) × AreSame before now
+ActsAs trial real words (Some command) input before now outcome = Acts trial real words command input before now outcome
 
 -- what is wanted of a command line
-abbrev pub Wants : {T D : Type 0} → Ghosts D → List (List ℕ) → List ℕ → Disks T D → Disks T D → Outcome → Type 0
-Wants disk words input before now outcome = ActsAs disk words (command_of words) input before now outcome
+abbrev pub Wants : {T D : Type 0} → Ghosts T → Ghosts D → List (List ℕ) → List ℕ → Disks T D → Disks T D → Outcome → Type 0
+Wants trial real words input before now outcome = ActsAs trial real words (command_of words) input before now outcome
+
+-- the count of faults of a disk that the command calls has risen: a trial disk's for `net`, the real one's for `init`
+abbrev pub DiskRose : {T D : Type 0} → Ghosts T → Ghosts D → Option Command → Disks T D → Disks T D → Type 0
+DiskRose trial real (Some Net) before now = TrialRose trial before now
+DiskRose trial real (Some Check) before now = ⊥
+DiskRose trial real (Some Show) before now = ⊥
+DiskRose trial real (Some Match) before now = ⊥
+DiskRose trial real (Some Init) before now = RealRose real before now
+DiskRose trial real None before now = ⊥

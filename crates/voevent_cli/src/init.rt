@@ -90,7 +90,7 @@ fn make_node<R: Rack>(alloc: Global, rack: &mut R, config: Config) -> Result<Out
     requires form { is_config config ≡ true }
     requires whole { IsWhole (disks (λ k. R.trial rack.old k) (R.real rack.old)) }
     ensures done { IfOk result (λ outcome. OnReal (MakesOn R.Real.Disk config outcome) (disks (λ k. R.trial rack.old k) (R.real rack.old)) (disks (λ k. R.trial rack.new k) (R.real rack.new))) }
-    ensures failed { IfErr result (IsHinderedRack R.Real.Disk (disks (λ k. R.trial rack.old k) (R.real rack.old)) (disks (λ k. R.trial rack.new k) (R.real rack.new))) }
+    ensures failed { IfErr result (IsHinderedRack R.Trial.Disk R.Real.Disk Command.Init (disks (λ k. R.trial rack.old k) (R.real rack.old)) (disks (λ k. R.trial rack.new k) (R.real rack.new))) }
     ensures whole { IsWhole (disks (λ k. R.trial rack.new k) (R.real rack.new)) }
 {
     let Some(disk) = rack.lend_real() else {
@@ -109,7 +109,7 @@ pub(crate) fn answer_of_init<R: Rack>(
 ) -> Result<Outcome, Hindrance>
     requires input { length input.now ≤ 33554432 }
     requires whole { IsWhole (disks (λ k. R.trial rack.old k) (R.real rack.old)) }
-    ensures acted { (words : List (List ℕ)) → Acted R.Real.Disk words Command.Init input.now (disks (λ k. R.trial rack.old k) (R.real rack.old)) (disks (λ k. R.trial rack.new k) (R.real rack.new)) result }
+    ensures acted { (words : List (List ℕ)) → Acted R.Trial.Disk R.Real.Disk words Command.Init input.now (disks (λ k. R.trial rack.old k) (R.real rack.old)) (disks (λ k. R.trial rack.new k) (R.real rack.new)) result }
     ensures whole { IsWhole (disks (λ k. R.trial rack.new k) (R.real rack.new)) }
 {
     match read_config(alloc, input) {

@@ -9,6 +9,7 @@ mod command;
 mod document;
 mod init;
 pub mod laws;
+mod lending;
 mod matching;
 mod net;
 mod outcome;

@@ -52,11 +52,11 @@ fn answer_of<R: Rack>(
     requires other { command ≡ Command.Match → ⊥ }
     requires input { length input.now ≤ limit_of command }
     requires whole { IsWhole (disks (λ k. R.trial rack.old k) (R.real rack.old)) }
-    ensures acted { Acted R.Real.Disk words.now command input.now (disks (λ k. R.trial rack.old k) (R.real rack.old)) (disks (λ k. R.trial rack.new k) (R.real rack.new)) result }
+    ensures acted { Acted R.Trial.Disk R.Real.Disk words.now command input.now (disks (λ k. R.trial rack.old k) (R.real rack.old)) (disks (λ k. R.trial rack.new k) (R.real rack.new)) result }
     ensures whole { IsWhole (disks (λ k. R.trial rack.new k) (R.real rack.new)) }
 {
     match command {
-        Command::Net => Ok(answer_of_net(alloc, input)?),
+        Command::Net => answer_of_net(alloc, input, rack),
         Command::Check => Ok(answer_of_check(alloc, input)?),
         Command::Show => Ok(answer_of_show(alloc, input)?),
         Command::Match => unreachable!(),
@@ -88,7 +88,7 @@ fn prepare_command<S: Source, R: Rack>(
     requires asked { command_of words.now ≡ Some command }
     requires other { command ≡ Command.Match → ⊥ }
     requires whole { IsWhole (disks (λ k. R.trial rack.old k) (R.real rack.old)) }
-    ensures prepares { Prepares R.Real.Disk words.now (S.left source.old) (S.left source.new) (S.fault_count source.old) (S.fault_count source.new)
+    ensures prepares { Prepares R.Trial.Disk R.Real.Disk words.now (S.left source.old) (S.left source.new) (S.fault_count source.old) (S.fault_count source.new)
         (disks (λ k. R.trial rack.old k) (R.real rack.old)) (disks (λ k. R.trial rack.new k) (R.real rack.new)) result }
     ensures faults { S.fault_count source.new ≡ count_after (S.fault_count source.old) (is_unread result) }
     ensures whole { IsWhole (disks (λ k. R.trial rack.new k) (R.real rack.new)) }
@@ -147,7 +147,7 @@ pub(crate) fn prepare<S: Source, R: Rack>(
     rack: &mut R,
 ) -> Result<Outcome, Hindrance>
     requires whole { IsWhole (disks (λ k. R.trial rack.old k) (R.real rack.old)) }
-    ensures prepares { Prepares R.Real.Disk words.now (S.left source.old) (S.left source.new) (S.fault_count source.old) (S.fault_count source.new)
+    ensures prepares { Prepares R.Trial.Disk R.Real.Disk words.now (S.left source.old) (S.left source.new) (S.fault_count source.old) (S.fault_count source.new)
         (disks (λ k. R.trial rack.old k) (R.real rack.old)) (disks (λ k. R.trial rack.new k) (R.real rack.new)) result }
     ensures faults { S.fault_count source.new ≡ count_after (S.fault_count source.old) (is_unread result) }
     ensures whole { IsWhole (disks (λ k. R.trial rack.new k) (R.real rack.new)) }

@@ -32,6 +32,8 @@ pub enum Refusal {
     Damaged { place: u64 },
     /// G5: the disk holds a journal.
     Made,
+    /// G5: the trial disk of this node is not unmade.
+    MadeAt { node: u8 },
 }
 
 impl Refusal {
@@ -63,11 +65,11 @@ impl Refusal {
             }
             Refusal::Foreign { .. } => out.extend(b"G2"),
             Refusal::Damaged { .. } => out.extend(b"G3"),
-            Refusal::Made => out.extend(b"G5"),
+            Refusal::Made | Refusal::MadeAt { .. } => out.extend(b"G5"),
         }
     }
 
-    /// Adds where it refuses, for the rules that have a place or a line.
+    /// Adds where it refuses, for the rules that have a place, a line or a node.
     fn add_place(self, alloc: Global, out: &mut Bytes) -> Result<(), NoMemory>
         ensures { OnOk result (out.new ≡ out.old ++ place_of_refusal self) }
     {
@@ -91,6 +93,10 @@ impl Refusal {
                 out.extend(b" at ")?;
                 add_number(alloc, out, place as usize)
             }
+            Refusal::MadeAt { node } => {
+                out.extend(b" node ")?;
+                add_number(alloc, out, node as usize)
+            }
             _ => Ok(()),
         }
     }
@@ -100,9 +106,10 @@ impl Refusal {
         ensures { result ≡ status_of_refusal self }
     {
         match self {
-            Refusal::Foreign { .. } | Refusal::Damaged { .. } | Refusal::Made => {
-                Status::JournalRefused
-            }
+            Refusal::Foreign { .. }
+            | Refusal::Damaged { .. }
+            | Refusal::Made
+            | Refusal::MadeAt { .. } => Status::JournalRefused,
             _ => Status::Refused,
         }
     }

@@ -3,8 +3,8 @@
 ghost use Rattle.std.specs.Prelude.{◌≡◌, ◌==◌, List, ℕ, Some};
 ghost use Rattle.voe_outside.specs.Causes.{Rose, count_after};
 ghost use Rattle.voevent_cli.specs.Answers.{Answers, DoesAll, Ends, moment};
-ghost use Rattle.voevent_cli.specs.Racks.{IsWhole, RealRose, disks};
-ghost use Rattle.voevent_cli.specs.Wanted.{code_of};
+ghost use Rattle.voevent_cli.specs.Racks.{IsWhole, disks};
+ghost use Rattle.voevent_cli.specs.Wanted.{DiskRose, code_of, command_of};
 
 use crate::outcome::Status;
 use crate::prepare::{Hindrance, prepare};
@@ -25,7 +25,7 @@ fn finish<S: Source, K: Sink, R: Rack>(
     requires whole { IsWhole (disks (λ k. R.trial rack.old k) (R.real rack.old)) }
     ensures ends { let before = moment (S.left source.old) (S.fault_count source.old) (K.held sink.old) (K.fault_count sink.old) (disks (λ k. R.trial rack.old k) (R.real rack.old)) in
         let after = moment (S.left source.new) (S.fault_count source.new) (K.held sink.new) (K.fault_count sink.new) (disks (λ k. R.trial rack.new k) (R.real rack.new)) in
-        Ends R.Real.Disk words.now before after result }
+        Ends R.Trial.Disk R.Real.Disk words.now before after result }
     ensures source_faults { S.fault_count source.new ≡ count_after (S.fault_count source.old) (code_of result == 4) }
     ensures sink_faults { K.fault_count sink.new ≡ count_after (K.fault_count sink.old) (code_of result == 5) }
     ensures back { IsWhole (disks (λ k. R.trial rack.new k) (R.real rack.new)) }
@@ -60,23 +60,23 @@ pub fn offline<S: Source, K: Sink, R: Rack>(
     // what is done to the disks.
     ensures answers { let before = moment (S.left source.old) (S.fault_count source.old) (K.held sink.old) (K.fault_count sink.old) (disks (λ k. R.trial rack.old k) (R.real rack.old)) in
         let after = moment (S.left source.new) (S.fault_count source.new) (K.held sink.new) (K.fault_count sink.new) (disks (λ k. R.trial rack.new k) (R.real rack.new)) in
-        Answers R.Real.Disk words.now before after result }
+        Answers R.Trial.Disk R.Real.Disk words.now before after result }
 
     // Of a source that tells its bytes: what is wanted for all of them is done, unless a count of faults rose, or 7.
     ensures complete { let before = moment (S.left source.old) (S.fault_count source.old) (K.held sink.old) (K.fault_count sink.old) (disks (λ k. R.trial rack.old k) (R.real rack.old)) in
         let after = moment (S.left source.new) (S.fault_count source.new) (K.held sink.new) (K.fault_count sink.new) (disks (λ k. R.trial rack.new k) (R.real rack.new)) in
-        (input : List ℕ) → before.left ≡ Some input → DoesAll R.Real.Disk words.now input before after result }
+        (input : List ℕ) → before.left ≡ Some input → DoesAll R.Trial.Disk R.Real.Disk words.now input before after result }
 
     // 4 comes exactly where a read failed, and 5 exactly where a write did: the source's count of faults goes up in
     // this call, by one, where 4 is answered and nowhere else, and the sink's where 5 is.
     ensures source_faults { S.fault_count source.new ≡ count_after (S.fault_count source.old) (result == 4) }
     ensures sink_faults { K.fault_count sink.new ≡ count_after (K.fault_count sink.old) (result == 5) }
 
-    // 4 comes only where the source's count of faults rose in this call, 5 only where the sink's did, 6 only where the real
-    // disk's did.
+    // 4 comes only where the source's count of faults rose in this call, 5 only where the sink's did, 6 only where that of
+    // a disk did which the command calls: of a trial disk for `net`, of the real one for `init`.
     ensures read_fault { result ≡ 4 → Rose (S.fault_count source.old) (S.fault_count source.new) }
     ensures write_fault { result ≡ 5 → Rose (K.fault_count sink.old) (K.fault_count sink.new) }
-    ensures disk_fault { result ≡ 6 → RealRose R.Real.Disk (disks (λ k. R.trial rack.old k) (R.real rack.old)) (disks (λ k. R.trial rack.new k) (R.real rack.new)) }
+    ensures disk_fault { result ≡ 6 → DiskRose R.Trial.Disk R.Real.Disk (command_of words.now) (disks (λ k. R.trial rack.old k) (R.real rack.old)) (disks (λ k. R.trial rack.new k) (R.real rack.new)) }
 
     // Every disk is put back, whatever the status.
     ensures back { IsWhole (disks (λ k. R.trial rack.new k) (R.real rack.new)) }
