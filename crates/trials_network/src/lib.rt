@@ -1,7 +1,17 @@
-//! Trials of the whole network through the top call, over sources and sinks in memory.
-//!
-//! The expected texts were worked out by hand from the rules, or come from a reference that was written apart.
+//! Trials of the network, by the program's command line.
 #![tactic(auto)]
 
 #[cfg(test)]
-mod tests;
+mod call;
+#[cfg(test)]
+mod faults;
+#[cfg(test)]
+mod limits;
+#[cfg(test)]
+mod refusals;
+#[cfg(test)]
+mod rows;
+#[cfg(test)]
+mod stepped;
+#[cfg(test)]
+mod trial_disks;

@@ -44,6 +44,7 @@ use Rattle.voe_net.specs.Starting.{AllBlank, AllTellImages, IsFirstMade}
 use Rattle.voevent_cli.specs.declared.outcome.Status.{Status}
 use Rattle.voevent_cli.specs.Inits.{Inits, MakesOn, refusal_of_making}
 use Rattle.voevent_cli.specs.Nets.{AreRightFor, Nets, Runs, node_count}
+use Rattle.voevent_cli.proofs.Places.{get_within, same_lists}
 use Rattle.voevent_cli.specs.Racks.{AreFirst, Disks, TellsReal, TellsTrials}
 use Rattle.voevent_cli.specs.declared.refusal.Refusal.{Refusal}
 use Rattle.filter_text.specs.Filter.{Path}
@@ -362,20 +363,6 @@ outcome_of a b statuses outputs =
     let with_status : Status → Outcome = λ s. record { status = s; output = a.output } in
     let with_output : List ℕ → Outcome = λ o. record { status = b.status; output = o } in
     ap with_status statuses ∙ ap with_output outputs
-
-get_within : {X : Type 0} (xs : List X) (k : ℕ) (x : X) → slice_get xs k ≡ Some x → k < length xs
-get_within [] k x e = absurd (none_is_not_some e)
-get_within (y ∷ ys) zero x e = omega arith
-get_within (y ∷ ys) (suc k) x e = let rest = get_within ys k x e in omega arith
-
-same_lists : {X : Type 0} (xs ys : List X) → length xs ≡ length ys → ((k : ℕ) → k < length xs → slice_get xs k ≡ slice_get ys k) → xs ≡ ys
-same_lists [] [] count each = refl
-same_lists [] (y ∷ ys) count each = absurd (omega arith)
-same_lists (x ∷ xs) [] count each = absurd (omega arith)
-same_lists (x ∷ xs) (y ∷ ys) count each =
-    let first : Some x ≡ Some y = each 0 (omega arith) in
-    let others : xs ≡ ys = same_lists xs ys (omega arith) (λ k lt. each (suc k) (omega arith)) in
-    cc
 
 told_all : {T D : Type 0} (disk : Ghosts T) (rack : Disks T D) (old : List T) → TellsTrials disk rack → AreFirst rack old → AllTellImages disk old
 told_all disk rack old tells were k own is = tells k own (were k (get_within old k own is) ∙ is)

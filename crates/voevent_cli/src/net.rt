@@ -39,12 +39,14 @@ fn refuse(alloc: Global, fault: NetFault) -> Result<Outcome, Hindrance>
     }
 }
 
-/// Steps a network through all events, and makes its report.
+/// Steps a network of so many nodes through all events, and makes its report.
 fn report_of_run<D: CrashDisk>(
     network: &mut Network<'_, D>,
     events: &[Event],
+    nodes: usize,
 ) -> Result<Outcome, Hindrance>
     requires works { network.old.failed ≡ false }
+    requires nodes { nodes ≡ length network.old.faults }
     ensures works { OnOk result (network.new.failed ≡ false) }
     ensures fixed { network.new.graph ≡ network.old.graph }
     ensures configs { OnOk result (network.new.configs ≡ network.old.configs) }
@@ -59,8 +61,9 @@ fn report_of_run<D: CrashDisk>(
             status: Status::Done,
             output: network.report()?,
         }),
-        Err(NetFault::Disk { .. }) => Err(Hindrance::DiskFault),
-        Err(NetFault::AlreadyMade { .. } | NetFault::NoMemory) => Err(Hindrance::NoMemory),
+        // The contract below doesn't say that the node is one of the network's.
+        Err(NetFault::Disk { node }) if usize::from(node) < nodes => Err(Hindrance::DiskFault),
+        Err(_) => Err(Hindrance::NoMemory),
     }
 }
 
@@ -81,7 +84,8 @@ fn run_on<D: CrashDisk>(
 {
     match Network::new(alloc, &scenario.graph, scenario.packets.as_slice(), disks) {
         Ok(mut network) => {
-            let result = report_of_run(&mut network, scenario.events.as_slice());
+            let nodes = scenario.graph.nodes.len();
+            let result = report_of_run(&mut network, scenario.events.as_slice(), nodes);
             (network.into_disks(), result)
         }
         Err((disks, fault)) => (disks, refuse(alloc, fault)),

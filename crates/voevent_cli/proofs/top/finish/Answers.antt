@@ -1,5 +1,4 @@
 -- What was prepared is written, with its status.
-use Rattle.voe_scenario.specs.Scenarios.{scenario_of}
 use Rattle.voevent_cli.proofs.SafeRuns.{safe_run}
 use Rattle.voevent_cli.proofs.Wants.{answer_code, wants_answers, written}
 use Rattle.voevent_cli.specs.Wanted.{command_of}
@@ -15,8 +14,8 @@ returns-in-Ok-write_all-clause-ends g c =
       taken = prepared.0;
       gave = prepared.1.0;
       few = prepared.1.1;
-      says = written g.R.Real.Disk c.args.words.now prepared.0 _ _ c.in-Ok.outcome.status
-          (wants_answers g.R.Real.Disk c.args.words.now prepared.0 _ _ c.in-Ok.outcome prepared.3)
+      says = written g.R.Trial.Disk g.R.Real.Disk c.args.words.now prepared.0 _ _ c.in-Ok.outcome.status
+          (wants_answers g.R.Trial.Disk g.R.Real.Disk c.args.words.now prepared.0 _ _ c.in-Ok.outcome prepared.3)
           (record {
             read = prepared.2;
             outcome = c.in-Ok.outcome;
@@ -24,15 +23,20 @@ returns-in-Ok-write_all-clause-ends g c =
             wanted_status = refl;
             output = c.in-Ok-write_all.ensures.bytes ∙ ap (append_known (g.K.Sink.held c.args.sink.now)) c.as_slice.ensures;
           })
-          (safe_run command prepared.0 c.every_moment.ensures.single c.every_moment.ensures.written c.every_moment.ensures.fulfilled);
+          (safe_run command prepared.0 (record {
+              single = c.every_moment.ensures.single;
+              sourced = c.every_moment.ensures.sourced;
+              covered = c.every_moment.ensures.covered;
+              fulfilled = c.every_moment.ensures.fulfilled;
+            }));
     }
 
 pub returns-in-Ok-write_all-clause-source_faults : goal.returns-in-Ok-write_all-clause-source_faults
 returns-in-Ok-write_all-clause-source_faults g c =
     let prepared = c.in-Ok.ensures.prepares in
-    rw ((answer_code c.in-Ok.outcome.status (wants_answers g.R.Real.Disk c.args.words.now prepared.0 _ _ c.in-Ok.outcome prepared.3)).0) c.in-Ok.ensures.faults
+    rw ((answer_code c.in-Ok.outcome.status (wants_answers g.R.Trial.Disk g.R.Real.Disk c.args.words.now prepared.0 _ _ c.in-Ok.outcome prepared.3)).0) c.in-Ok.ensures.faults
 
 pub returns-in-Ok-write_all-clause-sink_faults : goal.returns-in-Ok-write_all-clause-sink_faults
 returns-in-Ok-write_all-clause-sink_faults g c =
     let prepared = c.in-Ok.ensures.prepares in
-    rw ((answer_code c.in-Ok.outcome.status (wants_answers g.R.Real.Disk c.args.words.now prepared.0 _ _ c.in-Ok.outcome prepared.3)).1) c.in-Ok-write_all.ensures.faults
+    rw ((answer_code c.in-Ok.outcome.status (wants_answers g.R.Trial.Disk g.R.Real.Disk c.args.words.now prepared.0 _ _ c.in-Ok.outcome prepared.3)).1) c.in-Ok-write_all.ensures.faults
