@@ -1,12 +1,11 @@
 -- Which packets the records of a step have.
-use Rattle.std.proofs.Common.{◌≡◌, inl, inr, ℕ, Bool, true, false, List, [], ◌∷◌, Option, Some, None, refl, ap, ◌∙◌}
+use Rattle.std.proofs.Common.{◌≡◌, inl, inr, ℕ, Bool, true, false, List, [], ◌∷◌, Some, None, refl, ap, ◌∙◌}
 use Rattle.std.specs.Prelude.{cond, nat_lt}
-use Rattle.net_model.specs.Laws.{IsIn}
 use Rattle.net_model.specs.Notes.{is_open, knows, passing}
 use Rattle.net_model.specs.Rules.{NodeRules}
-use Rattle.net_model.specs.Steps.{Outcome, adds, answer_note, author_answer, broker_acked, broker_judged, known_answer, last_of, reply_to, says, settles, subscriber_judged, write_judged}
+use Rattle.net_model.specs.Steps.{Outcome, adds, answer_note, author_answer, broker_acked, broker_judged, last_of, reply_to, says, settles, subscriber_judged, write_judged}
 use Rattle.net_model.specs.declared.note.Note.{Note}
-use Rattle.net_model.specs.declared.note.Note.TheVariants.{Wrote, Acked, Refused, Accept, Done, Enter}
+use Rattle.net_model.specs.declared.note.Note.TheVariants.{Wrote, Accept, Done, Enter}
 use Rattle.net_model.specs.declared.state.Verdict.{Verdict}
 use Rattle.net_model.specs.declared.step.BrokerStep.TheVariants as b
 use Rattle.net_model.specs.declared.step.AuthorStep.TheVariants as a

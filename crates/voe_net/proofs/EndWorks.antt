@@ -1,5 +1,5 @@
 -- The steps of the three ends, as what becomes of their work.
-use Rattle.std.proofs.Common.{◌≡◌, ℕ, Bool, true, false, List, Option, Some, None, refl, ap, subst, sym, ◌∙◌}
+use Rattle.std.proofs.Common.{◌≡◌, ℕ, Bool, true, false, List, Some, None, refl, ap, sym, ◌∙◌}
 use Rattle.voe_values.specs.declared.kind.NodeKind.{NodeKind}
 use Rattle.voe_values.specs.declared.kind.NodeKind.TheVariants.{Author, Broker, Subscriber}
 use Rattle.std.specs.Prelude.{cond, length, nat_lt}

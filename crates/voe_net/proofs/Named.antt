@@ -1,10 +1,9 @@
 -- What is not an identifier is not open.
-use Rattle.std.proofs.Common.{◌≡◌, ℕ, Bool, true, false, ◌&&◌, ◌||◌, List, [], ◌∷◌, ◌++◌, Option, Some, None, refl, sym, ap, subst, ◌∙◌}
-use Rattle.std.specs.Prelude.{cond, nat_lt, is_some}
+use Rattle.std.proofs.Common.{◌≡◌, ℕ, Bool, true, false, not, ◌&&◌, ◌||◌, List, [], ◌∷◌, ◌++◌, Option, Some, None, refl, sym, ap, ◌∙◌}
+use Rattle.std.specs.Prelude.{cond, nat_lt}
 use Rattle.std.specs.Str.{bytes_eq}
 use Rattle.std.proofs.lemmas.Bool.{and_parts}
 use Rattle.net_model.proofs.Held.{same_bytes}
-use Rattle.voe_disk.specs.declared.disk.Disk.{Ghosts}
 use Rattle.voe_values.specs.declared.kind.NodeKind.TheVariants.{Author, Broker}
 use Rattle.net_model.specs.Flights.{author_hears, broker_hears}
 use Rattle.net_model.specs.Notes.{brings, is_open, knows}
@@ -20,10 +19,9 @@ use Rattle.net_machine.specs.Works.{is_step}
 use Rattle.net_machine.specs.declared.work.Work.TheVariants.{Hear}
 use Rattle.net_model.specs.declared.state.Verdict.TheVariants.{Ack, Nak}
 use Rattle.node_notes.proofs.Holding.{open_is_held}
-use Rattle.node_notes.specs.Forms.{is_author, is_broker, is_subscriber, is_identifier, is_packet, keeps_form, may_follow}
+use Rattle.node_notes.specs.Forms.{is_identifier, keeps_form, may_follow}
 use Rattle.node_notes.specs.Tells.{AreInOrder}
 use Rattle.node_notes.specs.declared.config.Config.{Config}
-use Rattle.node_book.specs.Ends.{EndView, IsSound}
 use Rattle.node_book.proofs.EndReplies.{shut_settles}
 use Rattle.voe_net.specs.Heard.{heard_of, named_so}
 use Rattle.voe_net.specs.declared.heard.Heard.{Heard}
@@ -69,7 +67,7 @@ not_open config notes number i order none = by (is_open notes number i) refl
 none_named : (i : List ℕ) (ack : Bool) → named_so i ack ≡ None → is_identifier i ≡ false
 none_named i ack = by (is_identifier i)
   where
-    by : (b : Bool) → cond b (Some (record { identifier = i; ack = ack })) None ≡ None → b ≡ false
+    by : (b : Bool) → cond {A = Option Heard} b (Some (record { identifier = i; ack = ack })) None ≡ None → b ≡ false
     by false is = refl
     by true is = absurd (cc)
 
@@ -92,7 +90,7 @@ some_named i ack heard = by (is_identifier i)
     parts : (one other : Heard) → Some one ≡ Some other → (one.identifier ≡ other.identifier) × (one.ack ≡ other.ack)
     parts one other e = (let same : one ≡ other = cc in (ap (λ (h : Heard). h.identifier) same, ap (λ (h : Heard). h.ack) same))
 
-    by : (b : Bool) → cond b (Some (record { identifier = i; ack = ack })) None ≡ Some heard → (i ≡ heard.identifier) × (ack ≡ heard.ack)
+    by : (b : Bool) → cond {A = Option Heard} b (Some (record { identifier = i; ack = ack })) None ≡ Some heard → (i ≡ heard.identifier) × (ack ≡ heard.ack)
     by false is = absurd (cc)
     by true is = parts (record { identifier = i; ack = ack }) heard is
 
@@ -123,11 +121,19 @@ broker_no_step link session (Ack i) none = none_named i true none
 broker_no_step link session (Nak (Some i) code) none = refl
 broker_no_step link session (Nak None code) none = refl
 
-pub broker_nak : (rules : NodeRules) (notes : List Note) (sessions : List ℕ) (link session : ℕ) (said : Verdict) (heard : Heard) → heard_of said ≡ Some heard → heard.ack ≡ false
-    → (broker_hears rules notes sessions link session said ≡ []) × (is_step Broker (Hear link session said) ≡ false)
-broker_nak rules notes sessions link session (Ack i) heard is nak = absurd (let parts = some_named i true heard is in let bad = parts.1 ∙ nak in cc)
-broker_nak rules notes sessions link session (Nak (Some i) code) heard is nak = (refl, refl)
-broker_nak rules notes sessions link session (Nak None code) heard is nak = (refl, refl)
+pub broker_nak : (link session : ℕ) (said : Verdict) (heard : Heard) → heard_of said ≡ Some heard → heard.ack ≡ false
+    → ((rules : NodeRules) (notes : List Note) (sessions : List ℕ) → broker_hears rules notes sessions link session said ≡ []) × (is_step Broker (Hear link session said) ≡ false)
+broker_nak link session (Ack i) heard is nak = absurd (let parts = some_named i true heard is in let bad = parts.1 ∙ nak in cc)
+broker_nak link session (Nak (Some i) code) heard is nak = (λ rules notes sessions. refl, refl)
+broker_nak link session (Nak None code) heard is nak = (λ rules notes sessions. refl, refl)
+
+pub nay : (b : Bool) → not b ≡ true → b ≡ false
+nay true is = absurd (cc)
+nay false is = refl
+
+pub yea : (b : Bool) → not b ≡ false → b ≡ true
+yea true is = refl
+yea false is = absurd (cc)
 
 pub broker_ack : (rules : NodeRules) (notes : List Note) (sessions : List ℕ) (link session : ℕ) (said : Verdict) (heard : Heard) → heard_of said ≡ Some heard → heard.ack ≡ true
     → broker_hears rules notes sessions link session said ≡ (broker_acked rules notes sessions link session heard.identifier).added

@@ -1,22 +1,18 @@
 -- An end that does nothing.
-use Rattle.std.proofs.Common.{◌≡◌, inl, ℕ, Bool, true, false, List, [], Option, None, refl, sym, ap, subst, ◌∙◌}
+use Rattle.std.proofs.Common.{◌≡◌, inl, ℕ, false, List, [], Option, None, refl, sym, ap, ◌∙◌}
 use Rattle.std.specs.Prelude.{is_some}
-use Rattle.voe_disk.specs.Runs.{Moments, Untouched}
 use Rattle.voe_disk.specs.declared.disk.Disk.{Ghosts}
 use Rattle.net_model.specs.Rules.{NodeRules}
-use Rattle.net_model.specs.Steps.{Outcome}
-use Rattle.net_model.specs.declared.note.Note.{Note}
 use Rattle.net_model.specs.declared.state.Verdict.{Verdict}
 use Rattle.node_book.specs.Ends.{EndView, IsSound}
-use Rattle.node_book.specs.EndSteps.{HasAnswered, IsReady}
+use Rattle.node_book.specs.EndSteps.{IsReady}
 use Rattle.node_book.proofs.EndReady.{rest_itself, says_so, unchanged_itself}
 use Rattle.net_machine.specs.Works.{is_step, work_added}
 use Rattle.net_machine.specs.declared.work.Work.{Work}
 use Rattle.net_machine.specs.declared.work.Work.TheVariants.{Hear}
 use Rattle.voe_net.specs.Nodes.{show_up}
 use Rattle.voe_net.specs.Worked.{HasWorked, outcome_of}
-use Rattle.voe_net.specs.declared.working.Worked.{Worked}
-use Rattle.voe_net.specs.declared.working.Worked.TheVariants.{Answered, Fallen, NoMemory}
+use Rattle.voe_net.specs.declared.working.Worked.TheVariants.{Answered, NoMemory}
 
 module _ {D : Type 0} (disk : Ghosts D) where
   -- what a disk says of a moment

@@ -1,16 +1,18 @@
 -- What becomes of a step of an end, told as what becomes of its work.
-use Rattle.std.proofs.Common.{◌≡◌, ◌⊎◌, ℕ, ◌≤◌, Bool, true, List, [], Option, Some, None, refl, sym, ap, subst, ◌∙◌, arith}
+use Rattle.std.proofs.Common.{◌≡◌, ◌⊎◌, inl, inr, ℕ, Bool, false, List, [], Option, None, refl, sym, ap, subst, ◌∙◌, arith}
 use Rattle.std.specs.Prelude.{is_some}
-use Rattle.voe_disk.specs.Disk.{Rose}
 use Rattle.voe_disk.specs.declared.disk.Disk.{Ghosts}
 use Rattle.gate_journal.specs.Device.{IsSameDisk}
 use Rattle.net_model.specs.Rules.{NodeRules}
 use Rattle.net_model.specs.Steps.{Outcome}
+use Rattle.net_model.specs.declared.step.Judged.TheVariants.{BadTree}
+use Rattle.node_notes.specs.declared.config.Config.{Config}
+use Rattle.node_book.specs.Keeps.{has_room}
 use Rattle.net_model.specs.declared.note.Note.{Note}
 use Rattle.net_model.specs.declared.state.Verdict.{Verdict}
 use Rattle.node_book.specs.Ends.{EndView, IsSound, one_more}
-use Rattle.node_book.specs.EndSteps.{Fate, HasAnswered, HasFallen, Happens, IsUnchanged, answered, is_down, lacked_memory}
-use Rattle.net_machine.specs.Works.{IsAbout, is_asking, is_step, work_added, work_answer}
+use Rattle.node_book.specs.EndSteps.{Fate, HasFallen, Happens, IsUnchanged, answered, is_down, lacked_memory}
+use Rattle.net_machine.specs.Works.{IsAbout, is_asking, work_added, work_answer}
 use Rattle.net_machine.specs.declared.work.Work.{Work}
 use Rattle.net_machine.specs.declared.work.Work.TheVariants.{Write, Take, Hear}
 use Rattle.voe_net.specs.Nodes.{show_up}
@@ -115,3 +117,7 @@ module _ {D : Type 0} (disk : Ghosts D) (old new : EndView D) where
       as_expected rules right =
           let P : List Note → Type 0 = λ added. Happens disk old new (record { added = added; answer = work_answer rules (show_up old None) work }) (answer_of told) (fate_of (disk.faults new.disk) told) in
           subst P (sym (tells.added rules)) (retold (outcome rules) step fate told (work_answer rules (show_up old None) work) tells.same_fate (tells.answer rules) (stepped.happens rules right))
+
+-- rules whose journal is the book
+abbrev pub any_rules : Config → NodeRules
+any_rules config = record { judge = λ bytes. BadTree 0; digest_of = λ bytes. bytes; passes = λ link bytes. false; has_room = has_room config }

@@ -1,10 +1,10 @@
 -- What a node is made of, as contracts see it.
-use Rattle.std.specs.Prelude.{◌≡◌, ℕ, Bool, true, List, [], Option, Some, None, length}
+use Rattle.std.specs.Prelude.{◌≡◌, true, [], Option, Some, None, length}
 use Rattle.voe_disk.specs.declared.disk.Disk.{Ghosts}
 use Rattle.voe_disk.specs.declared.fail.DiskFail.TheVariants.{Fault}
 use Rattle.voe_values.specs.declared.kind.NodeKind.TheVariants.{Author as AnAuthor, Broker as ABroker, Subscriber as ASubscriber}
 use Rattle.node_notes.specs.Forms.{is_config}
-use Rattle.node_book.specs.Ends.{EndView, IsSound}
+use Rattle.node_book.specs.Ends.{EndView}
 use Rattle.path_filter.specs.Links.{AreReadable}
 use Rattle.voe_net.specs.Nodes.{AreDistinct, names_of}
 use Rattle.voe_net.specs.declared.kept.Kept.{Kept}

@@ -1,5 +1,5 @@
 -- What the network is told of an end's work, of its next packet and of a session.
-use Rattle.std.specs.Prelude.{◌≡◌, ◌<◌, ◌+◌, ◌^◌, ℕ, true, List, Option, Result, IfOk, IfErr, IfSome, OnOk, Some, is_some}
+use Rattle.std.specs.Prelude.{◌≡◌, ◌<◌, ◌+◌, ◌^◌, ℕ, true, List, Option, Result, IfOk, IfSome, OnOk, is_some}
 use Rattle.std.specs.Option.{option_map}
 use Rattle.voe_disk.specs.declared.disk.Disk.{Ghosts}
 use Rattle.voe_values.specs.declared.kind.NodeKind.TheVariants.{Broker}

@@ -1,5 +1,8 @@
--- What the answers of the three ends say of their work.
-use Rattle.std.specs.Prelude.{Some, None}
+-- What the answers of the three ends say of their work, and how the network is told.
+use Rattle.std.specs.Prelude.{Option, Some, None, Result, Ok, Err}
+use Rattle.net_model.specs.declared.state.Verdict.{Verdict}
+use Rattle.net_machine.specs.declared.fault.EndFault.{EndFault}
+use Rattle.net_machine.specs.declared.fault.EndFault.TheVariants as fault
 use Rattle.net_model.specs.declared.step.AuthorStep.{AuthorStep}
 use Rattle.net_model.specs.declared.step.AuthorStep.TheVariants as a
 use Rattle.net_model.specs.declared.step.BrokerStep.{BrokerStep}
@@ -24,3 +27,9 @@ abbrev pub subscriber_told : SubscriberStep → Worked
 subscriber_told (s.Answer verdict) = Answered (Some verdict)
 subscriber_told (s.Down faults stopped) = Fallen stopped
 subscriber_told s.NoMemory = NoMemory
+
+-- how the network is told of the work
+abbrev pub told_as : Worked → Result (Option Verdict) EndFault
+told_as (Answered answer) = Ok answer
+told_as (Fallen stopped) = Err fault.Disk
+told_as NoMemory = Err fault.NoMemory

@@ -1,5 +1,5 @@
 -- What becomes of an end's work.
-use Rattle.std.specs.Prelude.{◌≡◌, ℕ, Bool, true, List, Option, Some, None, is_some}
+use Rattle.std.specs.Prelude.{◌≡◌, ℕ, true, List, Option, Some, None, is_some}
 use Rattle.voe_disk.specs.Disk.{Rose}
 use Rattle.voe_disk.specs.declared.disk.Disk.{Ghosts}
 use Rattle.gate_journal.specs.Device.{IsSameDisk}

@@ -5,7 +5,7 @@ ghost use Rattle.std.specs.Option.{option_map};
 ghost use Rattle.voe_values.specs.declared.kind.NodeKind.TheVariants.{Subscriber as ASubscriber};
 ghost use Rattle.net_model.specs.Steps.{last_of};
 ghost use Rattle.net_machine.specs.Works.{IsOver};
-ghost use Rattle.voe_net.specs.Asked.{IsAsked, IsEntered};
+ghost use Rattle.voe_net.specs.Asked.{IsAsked, IsEntered, given_by_author, given_by_broker, session_by_broker};
 ghost use Rattle.voe_net.specs.Kept.{IsNode, end_of};
 ghost use Rattle.voe_net.specs.Nodes.{AreDistinct, names_of, show};
 ghost use Rattle.voe_net.specs.Performed.{HasFound, HasJoined};
@@ -31,11 +31,27 @@ pub fn next<D: CrashDisk>(
     ensures found { HasFound D.Disk number after (option_map end_of kept.old) (option_map end_of kept.new) result }
 {
     match kept {
-        Some(Kept::Author { end }) => author_next(end, number, after),
-        Some(Kept::Broker { end }) => broker_next(end, number, session, after),
-        Some(Kept::Subscriber { .. }) => unreachable!(),
-        Some(Kept::Bare { .. }) => unreachable!(),
+        Some(kept) => next_of(kept, number, session, after),
         None => unreachable!(),
+    }
+}
+
+fn next_of<D: CrashDisk>(
+    kept: &mut Kept<D>,
+    number: u16,
+    session: u64,
+    after: usize,
+) -> Result<Option<(usize, Bytes)>, EndFault>
+    requires node { IsNode D.Disk (Some kept.old) }
+    requires over { IsOver (show (Some (end_of kept.old))) number session }
+    ensures node { IsNode D.Disk (Some kept.new) }
+    ensures found { HasFound D.Disk number after (Some (end_of kept.old)) (Some (end_of kept.new)) result }
+{
+    match kept {
+        Kept::Author { end } => author_next(end, number, after),
+        Kept::Broker { end } => broker_next(end, number, session, after),
+        Kept::Subscriber { .. } => unreachable!(),
+        Kept::Bare { .. } => unreachable!(),
     }
 }
 
@@ -48,15 +64,18 @@ fn author_next<D: CrashDisk>(
     requires line { line < length end.old.config.links }
     ensures { IsAsked D.Disk line after end.old end.new result }
 {
-    let notes = end.book().notes();
-    match end.step(AuthorEvent::Next { line, after }) {
-        AuthorStep::Packet { at, packet, .. } => {
-            prove!(at < notes);
-            Ok(Some((at, packet)))
-        }
+    // Each place is below the number of records, which fits.
+    let _notes = end.book().notes();
+    author_given(end.step(AuthorEvent::Next { line, after }))
+}
+
+fn author_given(step: AuthorStep) -> Result<Option<(usize, Bytes)>, EndFault>
+    ensures { result ≡ given_by_author step }
+{
+    match step {
+        AuthorStep::Packet { at, packet, .. } => Ok(Some((at, packet))),
         AuthorStep::Nothing => Ok(None),
-        AuthorStep::NoMemory => Err(EndFault::NoMemory),
-        _ => unreachable!(),
+        _ => Err(EndFault::NoMemory),
     }
 }
 
@@ -71,19 +90,22 @@ fn broker_next<D: CrashDisk>(
     requires current { session ≡ last_of end.old.sessions link }
     ensures { IsAsked D.Disk link after end.old end.new result }
 {
-    let notes = end.book().notes();
-    match end.step(BrokerEvent::Next {
+    // Each place is below the number of records, which fits.
+    let _notes = end.book().notes();
+    broker_given(end.step(BrokerEvent::Next {
         link,
         session,
         after,
-    }) {
-        BrokerStep::Packet { at, packet, .. } => {
-            prove!(at < notes);
-            Ok(Some((at, packet)))
-        }
+    }))
+}
+
+fn broker_given(step: BrokerStep) -> Result<Option<(usize, Bytes)>, EndFault>
+    ensures { result ≡ given_by_broker step }
+{
+    match step {
+        BrokerStep::Packet { at, packet, .. } => Ok(Some((at, packet))),
         BrokerStep::Nothing => Ok(None),
-        BrokerStep::NoMemory => Err(EndFault::NoMemory),
-        _ => unreachable!(),
+        _ => Err(EndFault::NoMemory),
     }
 }
 
@@ -96,11 +118,23 @@ pub fn join<D: CrashDisk>(kept: &mut Option<Kept<D>>, number: u16) -> Result<u64
     ensures joined { HasJoined D.Disk number (option_map end_of kept.old) (option_map end_of kept.new) result }
 {
     match kept {
-        Some(Kept::Author { .. }) => Ok(0),
-        Some(Kept::Broker { end }) => broker_join(end, number),
-        Some(Kept::Subscriber { .. }) => unreachable!(),
-        Some(Kept::Bare { .. }) => unreachable!(),
+        Some(kept) => join_of(kept, number),
         None => unreachable!(),
+    }
+}
+
+fn join_of<D: CrashDisk>(kept: &mut Kept<D>, number: u16) -> Result<u64, EndFault>
+    requires node { IsNode D.Disk (Some kept.old) }
+    requires kind { (show (Some (end_of kept.old))).config.kind ≢ ASubscriber }
+    requires number { number < length (show (Some (end_of kept.old))).config.links }
+    ensures node { IsNode D.Disk (Some kept.new) }
+    ensures joined { HasJoined D.Disk number (Some (end_of kept.old)) (Some (end_of kept.new)) result }
+{
+    match kept {
+        Kept::Author { .. } => Ok(0),
+        Kept::Broker { end } => broker_join(end, number),
+        Kept::Subscriber { .. } => unreachable!(),
+        Kept::Bare { .. } => unreachable!(),
     }
 }
 
@@ -114,10 +148,15 @@ fn broker_join<D: CrashDisk>(end: &mut BrokerEnd<D>, link: u16) -> Result<u64, E
     let Ok(name) = name_of(end, link) else {
         return Err(EndFault::NoMemory);
     };
-    match end.step(BrokerEvent::Join { name }) {
+    entered(end.step(BrokerEvent::Join { name }))
+}
+
+fn entered(step: BrokerStep) -> Result<u64, EndFault>
+    ensures { result ≡ session_by_broker step }
+{
+    match step {
         BrokerStep::Joined { session, .. } => Ok(session),
-        BrokerStep::NoMemory => Err(EndFault::NoMemory),
-        _ => unreachable!(),
+        _ => Err(EndFault::NoMemory),
     }
 }
 

@@ -11,7 +11,7 @@ ghost use Rattle.net_machine.specs.Owed.{owed as owed_by};
 ghost use Rattle.voe_net.specs.Kept.{IsNode, end_of};
 ghost use Rattle.voe_net.specs.Nodes.{show};
 ghost use Rattle.voe_net.specs.Right.{IsRight};
-ghost use Rattle.voe_net.specs.Up.{book_up as book_of};
+ghost use Rattle.voe_net.specs.Up.{book_if, book_up as book_of};
 
 use crate::kept::Kept;
 use net_model::{Judged, Note};
@@ -35,7 +35,8 @@ pub fn is_new<D: CrashDisk>(
     let Judging { judged, .. } = judge(alloc, packet.as_slice())?;
     match judged {
         Judged::Good { identifier } => Ok(!knows(kept, &identifier)),
-        _ => Ok(true),
+        Judged::BadTree { .. } => Ok(true),
+        Judged::BadPacket { .. } => Ok(true),
     }
 }
 
@@ -97,13 +98,18 @@ fn owed_in<D: CrashDisk>(book: &Book<D>) -> u128
 pub fn book_up<D: CrashDisk>(kept: &Option<Kept<D>>) -> Option<&Book<D>>
     ensures { option_copied result ≡ book_of (option_map end_of kept.now) }
 {
-    let book = match kept {
-        Some(Kept::Author { end }) => end.book(),
-        Some(Kept::Broker { end }) => end.book(),
-        Some(Kept::Subscriber { end }) => end.book(),
-        Some(Kept::Bare { .. }) => return None,
-        None => return None,
-    };
+    match kept {
+        Some(Kept::Author { end }) => if_up(end.book()),
+        Some(Kept::Broker { end }) => if_up(end.book()),
+        Some(Kept::Subscriber { end }) => if_up(end.book()),
+        Some(Kept::Bare { .. }) => None,
+        None => None,
+    }
+}
+
+fn if_up<D: CrashDisk>(book: &Book<D>) -> Option<&Book<D>>
+    ensures { option_copied result ≡ book_if book.now book.now.down }
+{
     if book.down().is_none() {
         Some(book)
     } else {

@@ -1,11 +1,12 @@
 //! The work of a node, as the network asks for it.
 
-ghost use Rattle.std.specs.Prelude.{Some};
+ghost use Rattle.std.specs.Prelude.{◌≡◌, Some};
 ghost use Rattle.std.specs.Option.{option_map};
 ghost use Rattle.net_machine.specs.Works.{IsFit};
 ghost use Rattle.voe_net.specs.Kept.{IsNode, end_of};
 ghost use Rattle.voe_net.specs.Nodes.{show};
 ghost use Rattle.voe_net.specs.Performed.{HasPerformed};
+ghost use Rattle.voe_net.specs.Told.{told_as};
 
 use crate::kept::Kept;
 use crate::working::{Worked, work as work_on};
@@ -41,7 +42,13 @@ fn perform_on<D: CrashDisk>(
     ensures node { IsNode D.Disk (Some kept.new) }
     ensures performed { HasPerformed D.Disk work (Some (end_of kept.old)) (Some (end_of kept.new)) result }
 {
-    match work_on(alloc, kept, work) {
+    told(work_on(alloc, kept, work))
+}
+
+fn told(worked: Worked) -> Result<Option<Verdict>, EndFault>
+    ensures { result ≡ told_as worked }
+{
+    match worked {
         Worked::Answered { answer } => Ok(answer),
         Worked::Fallen { .. } => Err(EndFault::Disk),
         Worked::NoMemory => Err(EndFault::NoMemory),
