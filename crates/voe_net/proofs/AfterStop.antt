@@ -19,13 +19,9 @@ use Rattle.voe_net.specs.Nodes.{TellsCrash, show}
 use Rattle.voe_net.specs.Right.{IsRight}
 use Rattle.voe_net.specs.Stopping.{IsStopped}
 use Rattle.voe_net.specs.Worked.{AllBring}
+use Rattle.voe_net.proofs.Loading.{told}
 use Rattle.voe_net.proofs.Stopped.{HasRun, after_stop}
 use Rattle.voe_net.proofs.Views.{loaded_shows, up_shows, view_of}
-
--- an image that is told is some image
-told_image : (o : Option (List ℕ)) → IsSome o → (image : List ℕ) × (o ≡ Some image)
-told_image None some = absurd (cc)
-told_image (Some image) some = (image, refl)
 
 cut : (kept : Bool) (rules : NodeRules) (config : Config) (notes : List Note) (sessions : List ℕ) (work : Work)
     → view_of config (after_stop kept notes (work_added rules (view_of config notes sessions) work)) (map (λ last. 0) sessions) ≡ cut_short kept rules (view_of config notes sessions) work
@@ -56,8 +52,8 @@ module _ {D : Type 0} (disk : Ghosts D) (calls fill : ℕ) (work : Work) (old ne
 
   exact_shows : (added : List Note) → HasRun disk calls fill old.config old.notes added state → TellsCrash disk (Some old)
       → show (Some new) ≡ view_of old.config (after_stop (is_kept calls fill) old.notes added) (map (λ last. 0) old.sessions)
-  exact_shows added run told =
-      let image = told_image (disk.crash_image state fill) (tells fill (told fill)) in
+  exact_shows added run all =
+      let image = told (disk.crash_image state fill) (tells fill (all fill)) in
       let same : loaded.image ≡ image.0 = loaded.exact image.0 (subst (λ (byte : ℕ). disk.crash_image state byte ≡ Some image.0) (sym filled) image.1) in
       shows (after_stop (is_kept calls fill) old.notes added)
       (subst (λ (i : List ℕ). Keeps i old.config (after_stop (is_kept calls fill) old.notes added)) (sym same) (run.exact image.0 image.1))

@@ -14,12 +14,8 @@ use Rattle.net_machine.specs.declared.fault.EndFault.{EndFault}
 use Rattle.net_machine.specs.declared.fault.EndFault.TheVariants.{Disk}
 use Rattle.voe_net.specs.Lost.{IsLost}
 use Rattle.voe_net.specs.Nodes.{IsBegun, IsNotBegun, first_sessions}
-use Rattle.voe_net.proofs.Loading.{lost_of, some_of}
+use Rattle.voe_net.proofs.Loading.{lost_of, some_of, told}
 use Rattle.voe_net.proofs.Views.{up_shows, view_is}
-
-told : {X : Type 0} (o : Option X) → IsSome o → (x : X) × (o ≡ Some x)
-told None some = absurd (cc)
-told (Some x) some = (x, refl)
 
 module _ {D : Type 0} (disk : Ghosts D) (config : Config) (old : D) (unarmed : (disk.arming old).calls ≡ None) where
   -- a making fails for nothing but the disk and memory

@@ -2,6 +2,7 @@ pub mod AfterStop
 pub mod Asked
 pub mod Beginning
 pub mod Bringing
+pub mod Crashed
 pub mod EndWorks
 pub mod Joining
 pub mod Loading
@@ -9,6 +10,7 @@ pub mod Named
 pub mod Performed
 pub mod Readable
 pub mod Rested
+pub mod StopNode
 pub mod Stopped
 pub mod Told
 pub mod Up

@@ -48,6 +48,11 @@ lost_of Stopped from other = absurd (other refl)
 lost_of NoMemory from other = inr refl
 lost_of (BadNote place) from other = absurd from
 
+-- what is there is something
+pub told : {X : Type 0} (o : Option X) → IsSome o → (x : X) × (o ≡ Some x)
+told None some = absurd (cc)
+told (Some x) some = (x, refl)
+
 pub some_of : {X : Type 0} (o : Option X) (P : X → Type 0) (x : X) → o ≡ Some x → IfSome o P → P x
 some_of o P x is holds = subst (λ v. IfSome v P) is holds
 

@@ -1,21 +1,21 @@
 //! The crash of a node, and its loading from what its disk then keeps.
 
-ghost use Rattle.std.specs.Prelude.{◌≡◌, IsTrue, OnOk, None, Some};
+ghost use Rattle.std.specs.Prelude.{◌≡◌, OnOk, None, Some};
 ghost use Rattle.std.specs.Option.{option_map};
 ghost use Rattle.gate_journal.specs.Journal.{EachFile};
-ghost use Rattle.node_book.specs.Ends.{IsSound};
 ghost use Rattle.node_book.specs.Keeps.{Keeps};
 ghost use Rattle.node_book.specs.declared.fault.BookFault.TheVariants.{DiskFault};
 ghost use Rattle.net_machine.specs.Counts.{HasCause};
 ghost use Rattle.net_machine.specs.Ends.{crashed};
 ghost use Rattle.voe_values.specs.declared.kind.NodeKind.TheVariants.{Author as AnAuthor, Broker as ABroker, Subscriber as ASubscriber};
 ghost use Rattle.voe_net.specs.Crashes.{IsLoadedAgain, IsLoadedFrom, LeavesItself, LeavesNode, ReadsNode};
-ghost use Rattle.voe_net.specs.Kept.{IsKeptNode, IsNode, HasKind, end_of};
+ghost use Rattle.voe_net.specs.Kept.{IsKeptNode, IsNode, end_of};
 ghost use Rattle.voe_net.specs.Lost.{IsLost};
 ghost use Rattle.voe_net.specs.Nodes.{TellsCrash, faults_of, show};
 ghost use Rattle.voe_net.specs.Worked.{kind_of};
 
 use crate::kept::Kept;
+use crate::working::is_up;
 use author_end::AuthorEnd;
 use broker_end::BrokerEnd;
 use net_machine::EndFault;
@@ -64,19 +64,6 @@ fn crash_node<D: CrashDisk>(alloc: Global, node: Kept<D>) -> (Kept<D>, Result<()
         return (node, Err(EndFault::NoMemory));
     }
     load_after_crash(alloc, node)
-}
-
-/// Whether the end is up.
-fn is_up<D: CrashDisk>(node: &Kept<D>) -> bool
-    ensures up { IsTrue result → (end_of node.now).down ≡ None }
-    ensures sound { IsTrue result → IsSound D.Disk (end_of node.now) }
-{
-    match node {
-        Kept::Author { end } => end.book().down().is_none(),
-        Kept::Broker { end } => end.book().down().is_none(),
-        Kept::Subscriber { end } => end.book().down().is_none(),
-        Kept::Bare { .. } => false,
-    }
 }
 
 /// Crashes the disk of an end that is whole whatever the crash leaves, and loads it again.

@@ -26,6 +26,7 @@ use voe_values::{Bytes, NoMemory};
 /// An author, a broker or a subscriber over its own disk, as the network steps it. Contracts see the end as its crate
 /// does: its disk, configuration, records, sessions and steps. An end whose disk has failed shows no configuration; it is
 /// only to be taken down.
+#[derive(Drop)]
 pub struct NodeEnd<D: CrashDisk> {
     alloc: Global,
     /// Nothing only while it is being loaded again.
@@ -77,7 +78,8 @@ impl<D: CrashDisk> NodeEnd<D> {
         ensures faults { D.faults result ≡ faults_of D.Disk self }
         ensures told { TellsCrash D.Disk self → (fill : ℕ) → IsSome (D.crash_image result fill) }
     {
-        disk_of(self.kept)
+        let NodeEnd { kept, .. } = self;
+        disk_of(kept)
     }
 
     /// The author, if it is one whose disk has not failed.

@@ -7,10 +7,11 @@ ghost use Rattle.net_model.specs.Runs.{is_kept};
 ghost use Rattle.net_machine.specs.Counts.{HasCause};
 ghost use Rattle.net_machine.specs.Ends.{crashed};
 ghost use Rattle.net_machine.specs.Works.{IsAbout, IsFit, OnlyBrings, cut_short};
+ghost use Rattle.voe_net.specs.Crashes.{IsLoadedAgain, LeavesItself};
 ghost use Rattle.voe_net.specs.Kept.{IsKeptNode, IsNode, end_of};
 ghost use Rattle.voe_net.specs.Nodes.{TellsCrash, faults_of, show};
 ghost use Rattle.voe_net.specs.Right.{IsRight};
-ghost use Rattle.voe_net.specs.Stopping.{IsArmedNode, IsStopped};
+ghost use Rattle.voe_net.specs.Stopping.{HasCauseAfter, IsArmedNode, IsStopped, IsWhole};
 
 use crate::crashing::{into_disk, load_after_crash, put_back};
 use crate::kept::Kept;
@@ -63,10 +64,30 @@ fn stop_node<D: CrashDisk>(
     ensures faults { HasCause (D.faults (end_of node).disk) (D.faults (end_of result.0).disk) result.1 }
 {
     arm(&mut node, calls, fill);
-    match working::work(alloc, &mut node, work) {
+    let worked = working::work(alloc, &mut node, work);
+    after_work(alloc, node, worked)
+}
+
+/// Crashes the disk after the work, and loads the end again. After a fault of the disk, or without memory, the disk is
+/// kept alone.
+fn after_work<D: CrashDisk>(
+    alloc: Global,
+    node: Kept<D>,
+    worked: Worked,
+) -> (Kept<D>, Result<(), EndFault>)
+    requires { IsWhole worked → LeavesItself D.Disk node }
+    ensures node { IsKeptNode D.Disk result.0 }
+    ensures loaded { OnOk result.1 (IsWhole worked × IsLoadedAgain D.Disk (end_of node).disk (end_of result.0)) }
+    ensures faults { HasCauseAfter worked (D.faults (end_of node).disk) (D.faults (end_of result.0).disk) result.1 }
+{
+    match worked {
         Worked::Answered { .. } => load_after_crash(alloc, node),
-        Worked::Fallen { stopped: true } => load_after_crash(alloc, node),
-        Worked::Fallen { stopped: false } => (crash_alone(node), Err(EndFault::Disk)),
+        Worked::Fallen { stopped } => {
+            if stopped {
+                return load_after_crash(alloc, node);
+            }
+            (crash_alone(node), Err(EndFault::Disk))
+        }
         Worked::NoMemory => (crash_alone(node), Err(EndFault::NoMemory)),
     }
 }
