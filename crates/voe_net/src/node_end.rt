@@ -34,6 +34,7 @@ pub struct NodeEnd<D: CrashDisk> {
 }
 
 impl<D: CrashDisk> Model for NodeEnd<D> {
+    ghost use Rattle.std.specs.Prelude.{Option};
     ghost use Rattle.std.specs.Option.{option_map};
     ghost use Rattle.node_book.specs.Ends.{EndView};
     ghost use Rattle.voe_net.specs.Kept.{IsNode, end_of};
