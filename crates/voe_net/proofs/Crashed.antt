@@ -1,22 +1,29 @@
 -- A node before and after a crash.
-use Rattle.std.proofs.Common.{◌≡◌, ℕ, true, List, length, map, Some, None, refl, sym, ◌∙◌, ap, subst}
-use Rattle.std.specs.Prelude.{Option, IsSome, IfSome}
+use Rattle.std.proofs.Common.{◌≡◌, ℕ, true, List, [], length, map, Some, None, refl, sym, ◌∙◌, ap, subst}
+use Rattle.std.specs.List.{list_all}
+use Rattle.std.specs.Prelude.{Option, IsSome, IfSome, ◌&&◌, nat_le}
+use Rattle.std.specs.Str.{is_utf8}
 use Rattle.voe_disk.specs.declared.disk.Disk.{Ghosts}
+use Rattle.voe_disk.specs.declared.fail.DiskFail.{DiskFail}
+use Rattle.gate_journal.specs.Journal.{EachFile}
+use Rattle.voe_values.specs.EndName.{is_end_name}
 use Rattle.voe_values.specs.declared.kind.NodeKind.{NodeKind}
 use Rattle.voe_values.specs.declared.kind.NodeKind.TheVariants as kinds
 use Rattle.node_notes.specs.declared.config.Config.{Config}
-use Rattle.node_notes.specs.Forms.{is_config}
+use Rattle.node_notes.specs.Forms.{is_config, is_link, is_name}
+use Rattle.node_notes.specs.declared.config.LinkConfig.{LinkConfig}
 use Rattle.node_book.specs.Ends.{EndView, IsSound}
 use Rattle.node_book.specs.Keeps.{Keeps}
 use Rattle.path_filter.specs.Links.{AreReadable}
 use Rattle.net_machine.specs.Ends.{crashed}
 use Rattle.voe_net.specs.Crashes.{IsLoadedAgain, IsLoadedFrom, KeepsNode, LeavesItself, LeavesNode, ReadsNode, no_sessions}
 use Rattle.voe_net.specs.Kept.{HasKind, IsConfigured, IsKeptNode, end_of}
-use Rattle.voe_net.specs.Nodes.{AreDistinct, TellsCrash, names_of, show}
+use Rattle.voe_net.specs.Nodes.{AreDistinct, TellsCrash, names_of, show, show_up}
 use Rattle.voe_net.specs.Worked.{kind_of}
 use Rattle.voe_net.specs.declared.kept.Kept.{Kept}
 use Rattle.voe_net.specs.declared.kept.Kept.TheVariants.{Author, Broker, Subscriber, Bare}
 use Rattle.voe_net.proofs.Loading.{some_of, told}
+use Rattle.voe_net.proofs.Readable.{both}
 use Rattle.voe_net.proofs.Views.{forgotten, loaded_shows, up_shows}
 
 -- an end that is up is of a kind
@@ -89,3 +96,18 @@ module _ {D : Type 0} (disk : Ghosts D) (node : Kept D) (is : IsKeptNode disk no
 
   pub crash_told : (new : EndView D) → IsLoadedAgain disk (end_of node).disk new → TellsCrash disk (Some (end_of node)) → TellsCrash disk (Some new)
   crash_told new loaded all fill = loaded.told fill (all fill)
+
+kept_by : {D : Type 0} (disk : Ghosts D) (end : EndView D) (state : D) (down : Option DiskFail) → (down ≡ None → EachFile disk state (λ file. Keeps file end.config end.notes))
+    → is_config (show_up end down).config ≡ true → EachFile disk state (λ file. Keeps file (show_up end down).config (show_up end down).notes)
+unfolding is_config is_name is_end_name
+kept_by disk end state None keeps form = keeps refl
+kept_by disk end state (Some fail) keeps form =
+    let named : is_name [] ≡ true =
+        (both (is_name []) (nat_le (length {A = LinkConfig} []) 64) (both (is_name [] && nat_le (length {A = LinkConfig} []) 64) (list_all is_link []) form).0).0 in
+    let bad : is_end_name [] ≡ true = (both (is_utf8 []) (is_end_name []) named).1 in
+    absurd (cc)
+
+-- what a disk keeps, as the network sees it
+pub kept_shown : {D : Type 0} (disk : Ghosts D) (end : EndView D) (state : D) → (end.down ≡ None → EachFile disk state (λ file. Keeps file end.config end.notes))
+    → is_config (show (Some end)).config ≡ true → EachFile disk state (λ file. Keeps file (show (Some end)).config (show (Some end)).notes)
+kept_shown disk end state keeps form = kept_by disk end state end.down keeps form

@@ -25,8 +25,8 @@ other_name : (name own : List ℕ) → (name ≡ own → ⊥) → bytes_eq name 
 other_name name own other = decided (bytes_eq name own) (λ is. other ((bytes_eq-Decides name own).0 is))
   where
     decided : (b : Bool) → (b ≡ true → ⊥) → b ≡ false
-    decided true no = absurd (no refl)
-    decided false no = refl
+    decided true = λ no. absurd (no refl)
+    decided false = λ no. refl
 
 tail_distinct : (own : List ℕ) (names : List (List ℕ)) → AreDistinct (own ∷ names) → AreDistinct names
 tail_distinct own names distinct m n name one two = let same : suc m ≡ suc n = distinct (suc m) (suc n) name one two in cc

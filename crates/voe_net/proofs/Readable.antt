@@ -16,7 +16,7 @@ use Rattle.path_filter.specs.Sets.{AreRead, Filters, RefusesSet}
 use Rattle.path_filter.specs.declared.set_fault.SetFault.{SetFault}
 use Rattle.path_filter.specs.declared.set_fault.SetFault.TheVariants.{Refused, TooMany, NoMemory}
 
-both : (a b : Bool) → (a && b) ≡ true → (a ≡ true) × (b ≡ true)
+pub both : (a b : Bool) → (a && b) ≡ true → (a ≡ true) × (b ≡ true)
 both true true e = (refl, refl)
 both true false e = absurd (cc)
 both false b e = absurd (cc)
