@@ -31,7 +31,7 @@ passing_first q x (part ∷ parts) passes others =
     let split = both (list_all q part) (list_all (list_all q) parts) others in
     rw (passes, split.0, split.1) refl
 
-passing_parts : (p q : ℕ → Bool) (xs : List ℕ) → list_all q xs ≡ true → list_all (list_all q) (slice_split p xs) ≡ true
+pub passing_parts : (p q : ℕ → Bool) (xs : List ℕ) → list_all q xs ≡ true → list_all (list_all q) (slice_split p xs) ≡ true
 passing_parts p q [] all = refl
 passing_parts p q (x ∷ xs) all =
     let split = both (q x) (list_all q xs) all in
@@ -43,7 +43,7 @@ passing_parts p q (x ∷ xs) all =
     ] in
     choose (p x)
 
-passing_rest : (q : ℕ → Bool) (n : ℕ) (xs : List ℕ) → list_all q xs ≡ true → list_all q (drop n xs) ≡ true
+pub passing_rest : (q : ℕ → Bool) (n : ℕ) (xs : List ℕ) → list_all q xs ≡ true → list_all q (drop n xs) ≡ true
 passing_rest q zero xs all = all
 passing_rest q (suc n) [] all = refl
 passing_rest q (suc n) (x ∷ xs) all = passing_rest q n xs (both (q x) (list_all q xs) all).1
@@ -104,14 +104,14 @@ name_kept name printed named =
     truth true is = refl
     truth false is = absurd (false≢true (sym is))
 
-neither : (a b : Bool) → (a || b) ≡ false → (a ≡ false) × (b ≡ false)
+pub neither : (a b : Bool) → (a || b) ≡ false → (a ≡ false) × (b ≡ false)
 neither true b is = absurd (false≢true (sym is))
 neither false b is = (refl, is)
 
-at_most : (m n : ℕ) → nat_lt m n ≡ false → n ≤ m
+pub at_most : (m n : ℕ) → nat_lt m n ≡ false → n ≤ m
 at_most m n is = ltb-false m n is
 
-no_filters : AreFilters []
+pub no_filters : AreFilters []
 no_filters = record {
   few = omega arith;
   some = λ k d h. absurd (omega arith);
@@ -126,7 +126,7 @@ unfolding is_filter
 text_form text printed short =
     rw (is_utf8-from_IsUtf8 text (IsUtf8-from_ascii text (printable_ascii text printed)), le-leb (length text) 1024 short) refl
 
-filters_pushed : (texts : List (List ℕ)) (text : List ℕ) → AreFilters texts → length texts ≤ 15 → IsSpoken (Some (says_filter text)) → length text ≤ 1024 → IsFilter text
+pub filters_pushed : (texts : List (List ℕ)) (text : List ℕ) → AreFilters texts → length texts ≤ 15 → IsSpoken (Some (says_filter text)) → length text ≤ 1024 → IsFilter text
     → AreFilters (texts ++ text ∷ [])
 filters_pushed texts text filters room some short read = record {
   few = omega (arith, length-append texts (text ∷ []));

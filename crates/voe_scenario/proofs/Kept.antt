@@ -1,27 +1,39 @@
 -- A line that breaks no rule keeps a scenario sound.
-use Rattle.std.proofs.Common.{◌≡◌, ℕ, ◌-◌, ◌==◌, ◌&&◌, zero, suc, ◌<◌, ◌≤◌, true, false, ◌⊎◌, inl, inr, List, [], ◌∷◌, ◌++◌, Option, Some, None, slice_get, length, nat_lt, nat_le, refl, arith, length-append, subst, cond, codes, Bool}
-use Rattle.std.proofs.lemmas.Bool.{leb-true, cases_Bool}
+use Rattle.std.proofs.Common.{◌≡◌, ℕ, ◌+◌, ◌*◌, ◌-◌, ◌==◌, ◌&&◌, zero, suc, ◌<◌, ◌≤◌, true, false, not, ◌⊎◌, inl, inr, List, [], ◌∷◌, ◌++◌, Option, Some, None, option_map, Result, Ok, Err, OnOk, slice_get, slice_set, length, map, nat_lt, nat_le, refl, sym, ◌∙◌, ap, arith, length-append, length-set, subst, Bool}
+use Rattle.std.proofs.lemmas.Bool.{cases_Bool, false≢true, leb-true}
 use Rattle.std.proofs.lemmas.Bool.Decides.{nat_tests}
-use Rattle.std.specs.List.{All, list_all, filter}
-use Rattle.std.specs.Str.{bytes_eq}
-use Rattle.voe_scenario.specs.Words.{words_of, is_printable, number_of}
-use Rattle.std.proofs.lemmas.List.Elements.{All-push, filter-append}
+use Rattle.std.proofs.lemmas.List.{length-map, map-append}
+use Rattle.std.proofs.lemmas.List.Elements.{All-push, All-set, All-weaker, filter-append}
+use Rattle.std.proofs.lemmas.Option.{get_or_from_slice_get, slice_get_within}
+use Rattle.std.specs.List.{All, filter, list_all}
 use Rattle.voe_values.specs.declared.kind.NodeKind.{NodeKind}
 use Rattle.voe_values.specs.declared.kind.NodeKind.TheVariants.{Author, Broker, Subscriber}
-use Rattle.net_model.specs.declared.scenario.Edge.{Edge}
+use Rattle.net_model.specs.declared.scenario.Edge as plain_edge
+use Rattle.net_model.specs.declared.scenario.Graph as plain
 use Rattle.net_model.specs.declared.scenario.Event.{Event}
-use Rattle.net_model.specs.declared.scenario.Event.TheVariants.{Write, Send, Down, Up}
-use Rattle.voe_scenario.specs.declared.scenario.Scenario.{Scenario}
-use Rattle.voe_scenario.specs.Grammar.{Said, says_node, says_line, says_link, says_packet, says_write, says_send, says_down, says_up, node_said, edge_event_said, pair_said, packet_said, is_role, words_said, said_of}
-use Rattle.voe_scenario.specs.Graphs.{is_kind}
-use Rattle.voe_scenario.specs.Refusals.{breaks_grammar, is_named, is_within}
-use Rattle.voe_scenario.specs.Scenarios.{nothing_yet, with_said, with_edge, with_event}
-use Rattle.net_model.specs.declared.scenario.Graph.{Graph}
+use Rattle.net_model.specs.declared.scenario.Event.TheVariants.{Write, Send, Down, Up, Cut, Connect, Crash, Reopen, Stop, Drain}
+use Rattle.net_model.specs.declared.scenario.Inner.{Inner}
+use Rattle.net_model.specs.declared.scenario.Inner.TheVariants.{Write as InWrite, Down as InDown, Up as InUp}
 use Rattle.net_model.specs.Draining.{IsProper}
+use Rattle.net_model.specs.Laws.{IsA}
 use Rattle.net_model.specs.Nodes.{links_of}
-use Rattle.voe_scenario.specs.Sound.{IsNamed, IsShort, IsSound}
-use Rattle.voe_scenario.specs.Taking.{IsFitting}
-use Rattle.voe_scenario.proofs.Names.{IsJoined, both, is_kind-true, joins_line-true, joins_link-true}
+use Rattle.voe_packet.specs.Drafts.{packet_text, params_size}
+use Rattle.voe_packet.specs.declared.draft.Draft.{Draft}
+use Rattle.voe_scenario.specs.declared.graph.Edge.{Edge}
+use Rattle.voe_scenario.specs.declared.graph.Graph.{Graph}
+use Rattle.voe_scenario.specs.declared.scenario.Scenario.{Scenario}
+use Rattle.voe_scenario.specs.Filters.{AreFilters, IsFilter}
+use Rattle.voe_scenario.specs.Grammar.{Said, says_node, says_line, says_link, says_filter, says_packet, says_event}
+use Rattle.voe_scenario.specs.Graphs.{is_kind}
+use Rattle.voe_scenario.specs.Refusals.{can_write, count_texts, has_room_for_edge, is_event_named, is_inner_named, leaves_broker}
+use Rattle.voe_scenario.specs.Scenarios.{nothing_yet, with_edge, with_said, with_text}
+use Rattle.voe_scenario.specs.Shapes.{ends_of, shape}
+use Rattle.voe_scenario.specs.Sound.{IsInnerNamed, IsNamed, IsShort, IsSoundSoFar, MayHaveTexts}
+use Rattle.voe_scenario.specs.Taking.{IsFitting, MayBeWritten, BringsPacket}
+use Rattle.voe_scenario.specs.Words.{is_printable}
+use Rattle.voe_scenario.proofs.ConfigKept.{at_most, filters_pushed, no_filters}
+use Rattle.voe_scenario.proofs.Names.{IsJoined, both, is_kind-true, joins_line-true, joins_link-true, named_below}
+use Rattle.voe_scenario.proofs.Spoken.{IsSpoken, IsSpokenDraft, IsSpokenEvent, spoken}
 
 equal : (m n : ℕ) → (m == n) ≡ true → m ≡ n
 equal m n is = grind (arith, nat_tests)
@@ -39,13 +51,15 @@ no_event n is = grind (arith, nat_tests)
 all_of_none : {A : Type 0} (P : A → Type 0) (xs : List A) → length xs ≡ 0 → All P xs
 all_of_none P xs none = λ k d within. absurd (omega arith)
 
+-- ---- nodes and edges
+
 -- a node stays where it is when another follows
 kind_pushed : (nodes : List NodeKind) (kind found : NodeKind) (at : ℕ) → slice_get nodes at ≡ Some found → slice_get (nodes ++ kind ∷ []) at ≡ Some found
 kind_pushed [] kind found at is = cc
 kind_pushed (node ∷ nodes) kind found zero is = is
 kind_pushed (node ∷ nodes) kind found (suc at) is = kind_pushed nodes kind found at is
 
-joined_pushed : (nodes : List NodeKind) (kind : NodeKind) (edge : Edge) → IsJoined nodes edge → IsJoined (nodes ++ kind ∷ []) edge
+joined_pushed : (nodes : List NodeKind) (kind : NodeKind) (edge : plain_edge.Edge) → IsJoined nodes edge → IsJoined (nodes ++ kind ∷ []) edge
 joined_pushed nodes kind edge (inl ends) =
     inl (kind_pushed nodes kind Author edge.upper ends.0, kind_pushed nodes kind Broker edge.lower ends.1)
 joined_pushed nodes kind edge (inr ends) =
@@ -63,7 +77,11 @@ pushed_get [] x (suc at) y is = cc
 pushed_get (z ∷ xs) x zero y is = inl is
 pushed_get (z ∷ xs) x (suc at) y is = pushed_get xs x at y is
 
-proper_edge : (graph : Graph) (edge : Edge) → IsProper graph → IsJoined graph.nodes edge → IsProper (record graph { edges = graph.edges ++ edge ∷ [] })
+-- the plain graph with one edge more
+one_more : plain.Graph → plain_edge.Edge → plain.Graph
+one_more graph edge = record graph { edges = graph.edges ++ edge ∷ [] }
+
+proper_edge : (graph : plain.Graph) (edge : plain_edge.Edge) → IsProper graph → IsJoined graph.nodes edge → IsProper (one_more graph edge)
 proper_edge graph edge proper joined = record {
   ends = λ e found is. elim (pushed_get graph.edges edge e found is) [
     | inl before ↦ proper.ends e found before
@@ -72,15 +90,15 @@ proper_edge graph edge proper joined = record {
   window = proper.window;
 }
 
-proper_node : (graph : Graph) (kind : NodeKind) → IsProper graph → IsProper (record graph { nodes = graph.nodes ++ kind ∷ [] })
+proper_node : (graph : plain.Graph) (kind : NodeKind) → IsProper graph → IsProper (record graph { nodes = graph.nodes ++ kind ∷ [] })
 proper_node graph kind proper = record {
   ends = λ e found is. joined_pushed graph.nodes kind found (proper.ends e found is);
   window = proper.window;
 }
 
 -- one more at the edge's upper node, and as many as before at any other
-links_kept : (graph : Graph) (edge : Edge) (n : ℕ) → links_of graph n ≤ 64 → links_of graph edge.upper < 64
-    → links_of (record graph { edges = graph.edges ++ edge ∷ [] }) n ≤ 64
+links_kept : (graph : plain.Graph) (edge : plain_edge.Edge) (n : ℕ) → links_of graph n ≤ 64 → links_of graph edge.upper < 64
+    → links_of (one_more graph edge) n ≤ 64
 links_kept graph edge n few room =
     let own : edge.upper ≡ n → links_of graph n < 64 = λ same. rw (← same) room in
     let one : length (filter (λ other. other.upper == n) (edge ∷ [])) ≤ 64 - links_of graph n =
@@ -91,25 +109,123 @@ links_kept graph edge n few room =
     rw (filter-append (λ other. other.upper == n) graph.edges (edge ∷ []))
     (omega (arith, length-append (filter (λ other. other.upper == n) graph.edges) (filter (λ other. other.upper == n) (edge ∷ []))))
 
-edge_kept : (before : Scenario) (edge : Edge) → IsSound before → nat_lt 0 (length before.events) ≡ false
-    → IsJoined before.graph.nodes edge → (nat_lt (length before.graph.edges) 256 && nat_lt (links_of before.graph edge.upper) 64) ≡ true
-    → IsSound (with_edge before edge.upper edge.lower)
-edge_kept before edge sound placed joined within =
-    let parts = both (nat_lt (length before.graph.edges) 256) (nat_lt (links_of before.graph edge.upper) 64) within in
+new_edge : ℕ → ℕ → Edge
+new_edge upper lower = record { upper = upper; lower = lower; filters = []; texts = [] }
+
+shape_pushed : (graph : Graph) (upper lower : ℕ)
+    → shape (record graph { edges = graph.edges ++ new_edge upper lower ∷ [] }) ≡ one_more (shape graph) (record { upper = upper; lower = lower })
+unfolding one_more new_edge
+shape_pushed graph upper lower =
+    ap (λ es. record { nodes = graph.nodes; edges = es; window = graph.window }) (map-append ends_of graph.edges (new_edge upper lower ∷ []))
+
+edge_kept : (before : Scenario) (upper lower : ℕ) → IsSoundSoFar before → nat_lt 0 (length before.events) ≡ false
+    → IsJoined before.graph.nodes (record { upper = upper; lower = lower }) → has_room_for_edge before.graph upper ≡ true
+    → IsSoundSoFar (with_edge before upper lower)
+unfolding new_edge
+edge_kept before upper lower sound placed joined within =
+    let parts = both (nat_lt (length before.graph.edges) 256) (nat_lt (links_of (shape before.graph) upper) 64) within in
+    let edge : plain_edge.Edge = record { upper = upper; lower = lower } in
+    let is = sym (shape_pushed before.graph upper lower) in
+    let after = with_edge before upper lower in
     record {
       nodes = sound.nodes;
-      edges = pushed before.graph.edges edge 256 parts.0;
-      links = λ n. links_kept before.graph edge n (sound.links n) (below (links_of before.graph edge.upper) 64 parts.1);
+      edges = pushed before.graph.edges (new_edge upper lower) 256 parts.0;
+      links = λ n. subst (λ g. links_of g n ≤ 64) is (links_kept (shape before.graph) edge n (sound.links n) (below (links_of (shape before.graph) upper) 64 parts.1));
       packets = sound.packets;
       events = sound.events;
       window = sound.window;
-      proper = proper_edge before.graph edge sound.proper joined;
-      named = all_of_none (IsNamed (with_edge before edge.upper edge.lower).graph (with_edge before edge.upper edge.lower).packets) before.events (no_event (length before.events) placed);
+      proper = subst IsProper is (proper_edge (shape before.graph) edge sound.proper joined);
+      filters = All-push (λ e. AreFilters e.texts) before.graph.edges (new_edge upper lower) sound.filters no_filters;
+      bare = All-push (MayHaveTexts after.graph) before.graph.edges (new_edge upper lower) sound.bare (inl refl);
+      named = all_of_none (IsNamed (shape after.graph) after.packets) before.events (no_event (length before.events) placed);
       short = sound.short;
     }
 
-event_kept : (before : Scenario) (event : Event) → IsSound before → IsNamed before.graph before.packets event
-    → nat_lt (length before.events) 1000000 ≡ true → IsSound (with_event before event)
+node_kept : (before : Scenario) (kind : NodeKind) → IsSoundSoFar before → nat_lt 0 (length before.events) ≡ false
+    → nat_lt (length before.graph.nodes) 64 ≡ true → IsSoundSoFar (with_said before (says_node kind))
+node_kept before kind sound placed within =
+    let after = with_said before (says_node kind) in
+    let bare : (e : Edge) → MayHaveTexts before.graph e → MayHaveTexts after.graph e = λ e may. elim may [
+      | inl none ↦ inl none
+      | inr broker ↦ inr (kind_pushed before.graph.nodes kind Broker e.upper broker)
+    ] in
+    record {
+      nodes = pushed before.graph.nodes kind 64 within;
+      edges = sound.edges;
+      links = sound.links;
+      packets = sound.packets;
+      events = sound.events;
+      window = sound.window;
+      proper = proper_node (shape before.graph) kind sound.proper;
+      filters = sound.filters;
+      bare = All-weaker (MayHaveTexts before.graph) (MayHaveTexts after.graph) bare before.graph.edges sound.bare;
+      named = all_of_none (IsNamed (shape after.graph) after.packets) before.events (no_event (length before.events) placed);
+      short = sound.short;
+    }
+
+-- ---- filters
+
+-- a list whose image doesn't change
+pub map_set_same : {A B : Type 0} (f : A → B) (xs : List A) (at : ℕ) (x y : A) → slice_get xs at ≡ Some x → f y ≡ f x → map f (slice_set xs at y) ≡ map f xs
+map_set_same f [] at x y is same = refl
+map_set_same f (z ∷ xs) zero x y is same = let found : z ≡ x = cc in rw (same, found) refl
+map_set_same f (z ∷ xs) (suc at) x y is same = ap (λ es. f z ∷ es) (map_set_same f xs at x y is same)
+
+-- what holds of each holds of this one
+of_found : {A : Type 0} (P : A → Type 0) (xs : List A) (at : ℕ) (x : A) → slice_get xs at ≡ Some x → All P xs → P x
+of_found P xs at x is all = subst P (get_or_from_slice_get xs at x x is) (all at x (slice_get_within xs at x is))
+
+text_kept : (before : Scenario) (at : ℕ) (text : List ℕ) (found : Option Edge) → slice_get before.graph.edges at ≡ found → IsSoundSoFar before
+    → nat_lt 0 (length before.events) ≡ false → leaves_broker before.graph.nodes found ≡ true
+    → (0 < length text) × (list_all is_printable text ≡ true) → (nat_le (length text) 1024 && nat_lt (count_texts found) 16) ≡ true → IsFilter text
+    → IsSoundSoFar (record before { graph = record before.graph { edges = with_text before.graph.edges at text found } })
+text_kept before at text None is sound placed leaves some within reads = sound
+text_kept before at text (Some edge) is sound placed leaves some within reads =
+    let parts = both (nat_le (length text) 1024) (nat_lt (length edge.texts) 16) within in
+    let more : Edge = record edge { texts = edge.texts ++ text ∷ [] } in
+    let room = below (length edge.texts) 16 parts.1 in
+    let after : Scenario = record before { graph = record before.graph { edges = slice_set before.graph.edges at more } } in
+    let same : map ends_of (slice_set before.graph.edges at more) ≡ map ends_of before.graph.edges = map_set_same ends_of before.graph.edges at edge more is refl in
+    let shaped : shape before.graph ≡ shape after.graph = ap (λ es. record { nodes = before.graph.nodes; edges = es; window = before.graph.window }) (sym same) in
+    let broker = is_kind-true before.graph.nodes edge.upper Broker leaves in
+    record {
+      nodes = sound.nodes;
+      edges = rw length-set sound.edges;
+      links = λ n. subst (λ g. links_of g n ≤ 64) shaped (sound.links n);
+      packets = sound.packets;
+      events = sound.events;
+      window = sound.window;
+      proper = subst IsProper shaped sound.proper;
+      filters = All-set (λ e. AreFilters e.texts) before.graph.edges at more
+          (filters_pushed edge.texts text (of_found (λ e. AreFilters e.texts) before.graph.edges at edge is sound.filters) (omega arith) some (leb-true (length text) 1024 parts.0) reads)
+          sound.filters;
+      bare = All-set (MayHaveTexts after.graph) before.graph.edges at more (inr broker) sound.bare;
+      named = all_of_none (IsNamed (shape after.graph) after.packets) before.events (no_event (length before.events) placed);
+      short = sound.short;
+    }
+
+-- ---- packets and events
+
+packet_kept : (before : Scenario) (draft : Draft) → IsSoundSoFar before → nat_lt 0 (length before.events) ≡ false
+    → nat_lt (length before.packets) 1024 ≡ true → IsShort (packet_text draft) → IsSoundSoFar (with_said before (says_packet draft))
+packet_kept before draft sound placed within short =
+    let after = with_said before (says_packet draft) in
+    record {
+      nodes = sound.nodes;
+      edges = sound.edges;
+      links = sound.links;
+      packets = pushed before.packets (packet_text draft) 1024 within;
+      events = sound.events;
+      window = sound.window;
+      proper = sound.proper;
+      filters = sound.filters;
+      bare = sound.bare;
+      named = all_of_none (IsNamed (shape after.graph) after.packets) before.events (no_event (length before.events) placed);
+      short = All-push IsShort before.packets (packet_text draft) sound.short short;
+    }
+
+event_kept : (before : Scenario) (event : Event) → IsSoundSoFar before → IsNamed (shape before.graph) before.packets event
+    → nat_lt (length before.events) 1000000 ≡ true → IsSoundSoFar (with_said before (says_event event))
 event_kept before event sound named within = record {
   nodes = sound.nodes;
   edges = sound.edges;
@@ -118,103 +234,85 @@ event_kept before event sound named within = record {
   events = pushed before.events event 1000000 within;
   window = sound.window;
   proper = sound.proper;
-  named = All-push (IsNamed before.graph before.packets) before.events event sound.named named;
+  filters = sound.filters;
+  bare = sound.bare;
+  named = All-push (IsNamed (shape before.graph) before.packets) before.events event sound.named named;
   short = sound.short;
 }
 
--- an identifier that is said isn't empty
-abbrev pub IsSpoken : Option Said → Type 0
-IsSpoken (Some (says_packet identifier)) = 0 < length identifier
-IsSpoken _ = Unit {0}
+edge_named : (before : Scenario) (edge : ℕ) → nat_lt edge (length before.graph.edges) ≡ true → edge < length (shape before.graph).edges
+edge_named before edge is = rw (length-map before.graph.edges ends_of) (below edge (length before.graph.edges) is)
 
-spoken_cond : (b : Bool) (p q : Option Said) → IsSpoken p → IsSpoken q → IsSpoken (cond b p q)
-spoken_cond true p q first second = first
-spoken_cond false p q first second = second
+write_named : (before : Scenario) (author packet : ℕ) → can_write before author packet ≡ true → (IsA (shape before.graph) author Author) × (packet < length before.packets)
+write_named before author packet is =
+    let parts = both (is_kind before.graph.nodes author Author) (nat_lt packet (length before.packets)) is in
+    (is_kind-true before.graph.nodes author Author parts.0, below packet (length before.packets) parts.1)
 
-spoken_node : (word : List ℕ) → IsSpoken (node_said word)
-spoken_node word =
-    spoken_cond (bytes_eq word (codes "author")) _ _ tt
-    (spoken_cond (bytes_eq word (codes "broker")) _ _ tt (spoken_cond (bytes_eq word (codes "subscriber")) (Some (says_node Subscriber)) None tt tt))
+inner_named : (before : Scenario) (inner : Inner) → is_inner_named before inner ≡ true → IsInnerNamed (shape before.graph) before.packets inner
+inner_named before (InWrite author packet) is = write_named before author packet is
+inner_named before (InDown edge) is = edge_named before edge is
+inner_named before (InUp edge) is = edge_named before edge is
 
-spoken_edge : (word : List ℕ) (edge : Option ℕ) → IsSpoken (edge_event_said word edge)
-spoken_edge word None = tt
-spoken_edge word (Some edge) =
-    spoken_cond (bytes_eq word (codes "send")) _ _ tt
-    (spoken_cond (bytes_eq word (codes "down")) _ _ tt (spoken_cond (bytes_eq word (codes "up")) (Some (says_up edge)) None tt tt))
+event_named : (before : Scenario) (event : Event) → is_event_named before event ≡ true → IsSpokenEvent event → IsNamed (shape before.graph) before.packets event
+event_named before (Write author packet) is said = write_named before author packet is
+event_named before (Send edge) is said = edge_named before edge is
+event_named before (Down edge) is said = edge_named before edge is
+event_named before (Up edge) is said = edge_named before edge is
+event_named before (Cut edge) is said = edge_named before edge is
+event_named before (Connect edge) is said = edge_named before edge is
+event_named before (Crash node) is said = below node (length before.graph.nodes) is
+event_named before (Reopen node) is said = below node (length before.graph.nodes) is
+event_named before (Stop calls fill inner) is said = (said.0, said.1, inner_named before inner is)
+event_named before Drain is said = tt
 
-spoken_pair : (word : List ℕ) (first second : Option ℕ) → IsSpoken (pair_said word first second)
-spoken_pair word None second = tt
-spoken_pair word (Some first) None = tt
-spoken_pair word (Some first) (Some second) =
-    spoken_cond (bytes_eq word (codes "line")) _ _ tt
-    (spoken_cond (bytes_eq word (codes "link")) _ _ tt (spoken_cond (bytes_eq word (codes "write")) (Some (says_write first second)) None tt tt))
+-- ---- a line
 
-spoken_packet : (identifier role : List ℕ) → IsSpoken (packet_said identifier role)
-spoken_packet [] role = tt
-spoken_packet (byte ∷ bytes) role = spoken_cond (is_role role) (Some (says_packet (byte ∷ bytes))) None (omega arith) tt
+-- every packet has bytes, and what a draft is written as is bounded by its texts
+pub record PacketsAreBounded : Type 0 where
+  pub some : (d : Draft) → 0 < length (packet_text d)
+  pub bound : (d : Draft) → d.citations ≡ [] → length (packet_text d) ≤ 131 + 6 * length d.identifier + 25 * length d.params + 6 * params_size d.params
 
-spoken_words : (words : List (List ℕ)) → IsSpoken (words_said words)
-spoken_words [] = tt
-spoken_words (word ∷ []) = spoken_node word
-spoken_words (word ∷ first ∷ []) = spoken_edge word (number_of first)
-spoken_words (word ∷ first ∷ second ∷ []) =
-    spoken_cond (bytes_eq word (codes "packet")) (packet_said first second) (pair_said word (number_of first) (number_of second))
-    (spoken_packet first second) (spoken_pair word (number_of first) (number_of second))
-spoken_words (word ∷ first ∷ second ∷ third ∷ others) = tt
+short_packet : PacketsAreBounded → (line : List ℕ) (draft : Draft) → IsSpokenDraft line draft → length line ≤ 2048 → length draft.params ≤ 64 → IsShort (packet_text draft)
+short_packet bounded line draft said short few =
+    let bound = bounded.bound draft said.uncited in
+    let size = said.size in
+    (bounded.some draft, omega arith)
 
-spoken_line : (line : List ℕ) → IsSpoken (said_of line)
-unfolding said_of
-spoken_line line = spoken_cond (list_all is_printable line) (words_said (words_of line)) None (spoken_words (words_of line)) tt
+pub kept : PacketsAreBounded → (before : Scenario) (line : List ℕ) (said : Said) → IsSoundSoFar before → IsFitting before line said → IsSoundSoFar (with_said before said)
+kept bounded before line (says_node kind) sound fitting = node_kept before kind sound fitting.stands.placed fitting.stands.within
+kept bounded before line (says_line upper lower) sound fitting =
+    edge_kept before upper lower sound fitting.stands.placed (joins_line-true before.graph.nodes (record { upper = upper; lower = lower }) fitting.stands.named) fitting.stands.within
+kept bounded before line (says_link upper lower) sound fitting =
+    edge_kept before upper lower sound fitting.stands.placed (joins_link-true before.graph.nodes (record { upper = upper; lower = lower }) fitting.stands.named) fitting.stands.within
+kept bounded before line (says_filter edge text) sound fitting =
+    text_kept before edge text (slice_get before.graph.edges edge) refl sound fitting.stands.placed fitting.stands.named
+    (spoken line (says_filter edge text) fitting.says) fitting.stands.within fitting.reads
+kept bounded before line (says_packet draft) sound fitting =
+    let parts = both (nat_le (length draft.identifier) 512 && nat_le (length draft.params) 64) (nat_lt (length before.packets) 1024) fitting.stands.within in
+    let few = both (nat_le (length draft.identifier) 512) (nat_le (length draft.params) 64) parts.0 in
+    packet_kept before draft sound fitting.stands.placed parts.1
+    (short_packet bounded line draft (spoken line (says_packet draft) fitting.says) fitting.stands.short (leb-true (length draft.params) 64 few.1))
+kept bounded before line (says_event event) sound fitting =
+    event_kept before event sound (event_named before event fitting.stands.named (spoken line (says_event event) fitting.says)) fitting.stands.within
 
-pub spoken : (line : List ℕ) (said : Said) → said_of line ≡ Some said → IsSpoken (Some said)
-spoken line said is = subst IsSpoken is (spoken_line line)
+-- what was added, where something was, keeps the scenario sound
+pub kept_where : {A E : Type 0} (answer : Result A E) → PacketsAreBounded → (before after : Scenario) (line : List ℕ) (said : Said)
+    → IsSoundSoFar before → IsFitting before line said → OnOk answer (after ≡ with_said before said) → OnOk answer (IsSoundSoFar after)
+kept_where (Ok done) bounded before after line said sound fitting added = rw added (kept bounded before line said sound fitting)
+kept_where (Err fault) bounded before after line said sound fitting added = tt
 
-pub kept : (before : Scenario) (said : Said) → IsSound before → IsSpoken (Some said) → breaks_grammar before (Some said) ≡ false
-    → is_named before said ≡ true → is_within before said ≡ true → IsSound (with_said before said)
-kept before (says_node kind) sound spoken placed named within =
-    let said : Said = says_node kind in
-    record {
-      nodes = pushed before.graph.nodes kind 64 within;
-      edges = sound.edges;
-      links = sound.links;
-      packets = sound.packets;
-      events = sound.events;
-      window = sound.window;
-      proper = proper_node before.graph kind sound.proper;
-      named = all_of_none (IsNamed (with_said before said).graph (with_said before said).packets) before.events (no_event (length before.events) placed);
-      short = sound.short;
-    }
-kept before (says_line upper lower) sound spoken placed named within =
-    let edge : Edge = record { upper = upper; lower = lower } in
-    edge_kept before edge sound placed (joins_line-true before.graph.nodes edge named) within
-kept before (says_link upper lower) sound spoken placed named within =
-    let edge : Edge = record { upper = upper; lower = lower } in
-    edge_kept before edge sound placed (joins_link-true before.graph.nodes edge named) within
-kept before (says_packet identifier) sound spoken placed named within =
-    let said : Said = says_packet identifier in
-    let parts = both (nat_le (length identifier) 512) (nat_lt (length before.packets) 1024) within in
-    record {
-      nodes = sound.nodes;
-      edges = sound.edges;
-      links = sound.links;
-      packets = pushed before.packets identifier 1024 parts.1;
-      events = sound.events;
-      window = sound.window;
-      proper = sound.proper;
-      named = all_of_none (IsNamed (with_said before said).graph (with_said before said).packets) before.events (no_event (length before.events) placed);
-      short = All-push IsShort before.packets identifier sound.short (spoken, leb-true (length identifier) 512 parts.0);
-    }
-kept before (says_write author packet) sound spoken placed named within =
-    let parts = both (is_kind before.graph.nodes author Author) (nat_lt packet (length before.packets)) named in
-    event_kept before (Write author packet) sound (is_kind-true before.graph.nodes author Author parts.0, below packet (length before.packets) parts.1) within
-kept before (says_send edge) sound spoken placed named within =
-    event_kept before (Send edge) sound (below edge (length before.graph.edges) named) within
-kept before (says_down edge) sound spoken placed named within =
-    event_kept before (Down edge) sound (below edge (length before.graph.edges) named) within
-kept before (says_up edge) sound spoken placed named within =
-    event_kept before (Up edge) sound (below edge (length before.graph.edges) named) within
+-- the packet that a line brings may be written
+pub brings_packet : (before : Scenario) (line : List ℕ) (said : Said) → IsFitting before line said → BringsPacket said
+brings_packet before line (says_node kind) fitting = tt
+brings_packet before line (says_line upper lower) fitting = tt
+brings_packet before line (says_link upper lower) fitting = tt
+brings_packet before line (says_filter edge text) fitting = tt
+brings_packet before line (says_packet draft) fitting =
+    let said = spoken line (says_packet draft) fitting.says in
+    record { identifier = fitting.stands.identified; texts = said.texts }
+brings_packet before line (says_event event) fitting = tt
 
-pub nothing_sound : IsSound nothing_yet
+pub nothing_sound : IsSoundSoFar nothing_yet
 nothing_sound = record {
   nodes = omega arith;
   edges = omega arith;
@@ -223,11 +321,8 @@ nothing_sound = record {
   events = omega arith;
   window = refl;
   proper = record { ends = λ e edge is. absurd (cc); window = omega arith };
+  filters = λ k d h. absurd (omega arith);
+  bare = λ k d h. absurd (omega arith);
   named = λ k d h. absurd (omega arith);
   short = λ k d h. absurd (omega arith);
 }
-
--- what breaks no rule keeps a scenario sound
-pub sound_with : (before after : Scenario) (line : List ℕ) (said : Said) → IsSound before → IsFitting before line said → after ≡ with_said before said → IsSound after
-sound_with before after line said sound fitting is =
-    rw is (kept before said sound (spoken line said fitting.says) fitting.placed fitting.named fitting.within)

@@ -3,11 +3,14 @@ pub mod Printable
 pub mod Pieces
 pub mod Numbers
 pub mod Names
+pub mod Behind
+pub mod Spoken
 pub mod Kept
 pub mod Turns
 pub mod Once
-pub mod Functions
+pub mod Same
+pub mod NodeNames
+pub mod Configured
+pub mod Filled
 pub mod ConfigKept
 pub mod ConfigReads
-pub mod Examples
-pub mod Long

@@ -5,6 +5,8 @@ use Rattle.std.proofs.lemmas.Option.{slice_get_within}
 use Rattle.voe_values.specs.declared.kind.NodeKind.{NodeKind}
 use Rattle.voe_values.specs.declared.kind.NodeKind.TheVariants.{Author, Broker, Subscriber}
 use Rattle.net_model.specs.declared.scenario.Edge.{Edge}
+use Rattle.voe_scenario.specs.declared.graph.Edge as filtered
+use Rattle.voe_scenario.specs.Refusals.{leaves_broker}
 use Rattle.voe_scenario.specs.Graphs.{same_kind, kind_is, is_kind, joins_line, joins_link}
 
 -- an edge leads from an author to a broker, or from a broker to a broker or a subscriber
@@ -79,3 +81,11 @@ link_below nodes upper lower is =
       | inr b ↦ named_below nodes lower Subscriber b
     ] in
     (named_below nodes upper Broker ends.0, low)
+
+-- an edge that leads from a broker is one of the edges
+found_within : (nodes : List NodeKind) (edges : List filtered.Edge) (at : ℕ) (found : Option filtered.Edge) → slice_get edges at ≡ found → leaves_broker nodes found ≡ true → at < length edges
+found_within nodes edges at None is leaves = absurd (false≢true leaves)
+found_within nodes edges at (Some edge) is leaves = slice_get_within edges at edge is
+
+pub leaves_within : (nodes : List NodeKind) (edges : List filtered.Edge) (at : ℕ) → leaves_broker nodes (slice_get edges at) ≡ true → at < length edges
+leaves_within nodes edges at leaves = found_within nodes edges at (slice_get edges at) refl leaves

@@ -5,7 +5,7 @@ use Rattle.std.specs.List.{slice_split, onto_first, count_by}
 use Rattle.std.proofs.lemmas.List.{take_all, length-drop}
 use Rattle.std.proofs.lemmas.List.Splits.{slice_split-cons_yes, slice_split-cons_no, length-slice_split}
 use Rattle.voe_scenario.specs.ConfigGrammar.{config_words_said}
-use Rattle.voe_scenario.specs.Grammar.{words_said}
+use Rattle.voe_scenario.specs.Grammar.{inner_said, plain_said}
 
 -- an element that isn't true is false
 is_false : (b : Bool) → ((b ≡ true) → ⊥) → b ≡ false
@@ -35,12 +35,20 @@ pub take_rest : (k : ℕ) (bytes : List ℕ) → take (length bytes - k) (drop k
 take_rest k bytes = take_all (length bytes - k) (drop k bytes) (omega (arith, length-drop k bytes))
 
 -- more than two words behind the first are no line
-too_many : (word first second : List ℕ) (others : List (List ℕ)) (n : ℕ) → length others ≡ n + 1 → words_said (word ∷ first ∷ second ∷ others) ≡ None
+too_many : (word first second : List ℕ) (others : List (List ℕ)) (n : ℕ) → length others ≡ n + 1 → plain_said word (first ∷ second ∷ others) ≡ None
 too_many word first second [] n is = absurd (omega arith)
 too_many word first second (third ∷ others) n is = refl
 
-pub too_many_words : (p : ℕ → Bool) (word first second rest : List ℕ) → words_said (word ∷ first ∷ second ∷ slice_split p rest) ≡ None
+pub too_many_words : (p : ℕ → Bool) (word first second rest : List ℕ) → plain_said word (first ∷ second ∷ slice_split p rest) ≡ None
 too_many_words p word first second rest = too_many word first second (slice_split p rest) (count_by p rest) (length-slice_split p rest)
+
+-- nor are they anything that a stop cuts short
+too_many_inner : (word first second : List ℕ) (others : List (List ℕ)) (n : ℕ) → length others ≡ n + 1 → inner_said (word ∷ first ∷ second ∷ others) ≡ None
+too_many_inner word first second [] n is = absurd (omega arith)
+too_many_inner word first second (third ∷ others) n is = refl
+
+pub too_many_inner_words : (p : ℕ → Bool) (word first second rest : List ℕ) → inner_said (word ∷ first ∷ second ∷ slice_split p rest) ≡ None
+too_many_inner_words p word first second rest = too_many_inner word first second (slice_split p rest) (count_by p rest) (length-slice_split p rest)
 
 -- more than one word behind the first are no line of a configuration
 too_many_of_config : (word first : List ℕ) (others : List (List ℕ)) (n : ℕ) → length others ≡ n + 1 → config_words_said (word ∷ first ∷ others) ≡ None

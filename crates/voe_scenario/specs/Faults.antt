@@ -1,7 +1,7 @@
 -- The numbers of the rules, and what a fault tells.
 use Rattle.std.specs.Prelude.{◌≡◌, ℕ, List, Option, Some, Result, Err}
 use Rattle.voe_scenario.specs.declared.fault.Rule.{Rule}
-use Rattle.voe_scenario.specs.declared.fault.Rule.TheVariants.{Grammar, Naming, Limit, Identifier, Filter}
+use Rattle.voe_scenario.specs.declared.fault.Rule.TheVariants.{Grammar, Naming, Limit, Identifier, Parameter, Filter}
 use Rattle.voe_scenario.specs.declared.fault.LineFault.{LineFault}
 use Rattle.voe_scenario.specs.declared.fault.LineFault.TheVariants.{Broken, NoMemory as LineWithoutMemory}
 use Rattle.voe_scenario.specs.declared.fault.ScenarioFault.{ScenarioFault}
@@ -14,6 +14,7 @@ number_of_rule Grammar = 1
 number_of_rule Naming = 2
 number_of_rule Limit = 3
 number_of_rule Identifier = 4
+number_of_rule Parameter = 5
 number_of_rule Filter = 6
 
 -- the fault tells by which number the line is refused; memory may be wanted too

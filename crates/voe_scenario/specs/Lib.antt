@@ -7,6 +7,7 @@ pub mod Rules
 pub mod Grammar
 pub mod Statements
 pub mod Graphs
+pub mod Shapes
 pub mod Refusals
 pub mod Taking
 pub mod Sound

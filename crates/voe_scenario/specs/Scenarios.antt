@@ -1,64 +1,89 @@
 -- The scenario that a text is, or the first line that is refused.
-use Rattle.std.specs.Prelude.{◌≡◌, ℕ, ◌+◌, cond, List, [], ◌∷◌, ◌++◌, Option, Some, None, Result, Ok, Err, length, nat_lt}
+use Rattle.std.specs.Prelude.{◌≡◌, ℕ, List, [], ◌∷◌, ◌++◌, Option, Some, None, Result, Ok, Err, map, slice_get, slice_set}
+use Rattle.std.specs.List.{All}
 use Rattle.net_model.specs.declared.scenario.Event.{Event}
-use Rattle.net_model.specs.declared.scenario.Event.TheVariants.{Write, Send, Down, Up}
+use Rattle.node_notes.specs.declared.config.Config.{Config}
+use Rattle.voe_packet.specs.Drafts.{packet_text}
+use Rattle.path_filter.specs.Sets.{AreRead}
+use Rattle.voe_scenario.specs.declared.graph.Edge.{Edge}
+use Rattle.voe_scenario.specs.declared.graph.Graph.{Graph}
 use Rattle.voe_scenario.specs.declared.scenario.Scenario.{Scenario}
-use Rattle.voe_scenario.specs.declared.fault.ScenarioFault.{ScenarioFault}
-use Rattle.voe_scenario.specs.declared.fault.ScenarioFault.TheVariants.{Refused, NoMemory}
-use Rattle.voe_scenario.specs.Words.{lines_of}
-pub use Rattle.voe_scenario.specs.Lines.{Refusal}
-use Rattle.voe_scenario.specs.Grammar.{Said, says_node, says_line, says_link, says_packet, says_write, says_send, says_down, says_up, said_of}
-use Rattle.voe_scenario.specs.Lines.{is_passed_over}
-use Rattle.voe_scenario.specs.Refusals.{refusal_of}
+use Rattle.voe_scenario.specs.Grammar.{Said, says_node, says_line, says_link, says_filter, says_packet, says_event, said_of}
+use Rattle.voe_scenario.specs.Lines.{Refusal, TextRead}
+use Rattle.voe_scenario.specs.Refusals.{RefusesLine}
+use Rattle.voe_scenario.specs.Shapes.{config_of, shape}
 
+-- ---- what a line adds
+
+-- one more edge, without filters
 abbrev pub with_edge : Scenario → ℕ → ℕ → Scenario
 with_edge before upper lower =
-    record before { graph = record before.graph { edges = before.graph.edges ++ record { upper = upper; lower = lower } ∷ [] } }
+    record before { graph = record before.graph { edges = before.graph.edges ++ record { upper = upper; lower = lower; filters = []; texts = [] } ∷ [] } }
 
-abbrev pub with_event : Scenario → Event → Scenario
-with_event before event = record before { events = before.events ++ event ∷ [] }
+-- one more filter of an edge, by its text
+abbrev pub with_text : List Edge → ℕ → List ℕ → Option Edge → List Edge
+with_text edges at text None = edges
+with_text edges at text (Some edge) = slice_set edges at (record edge { texts = edge.texts ++ text ∷ [] })
 
--- what a line adds; a packet's bytes are its identifier's
+-- a packet is the bytes that its draft is written as
 abbrev pub with_said : Scenario → Said → Scenario
 with_said before (says_node kind) = record before { graph = record before.graph { nodes = before.graph.nodes ++ kind ∷ [] } }
 with_said before (says_line upper lower) = with_edge before upper lower
 with_said before (says_link upper lower) = with_edge before upper lower
-with_said before (says_packet identifier) = record before { packets = before.packets ++ identifier ∷ [] }
-with_said before (says_write author packet) = with_event before (Write author packet)
-with_said before (says_send edge) = with_event before (Send edge)
-with_said before (says_down edge) = with_event before (Down edge)
-with_said before (says_up edge) = with_event before (Up edge)
+with_said before (says_filter edge text) =
+    record before { graph = record before.graph { edges = with_text before.graph.edges edge text (slice_get before.graph.edges edge) } }
+with_said before (says_packet draft) = record before { packets = before.packets ++ packet_text draft ∷ [] }
+with_said before (says_event event) = record before { events = before.events ++ event ∷ [] }
 
 abbrev pub with_any : Scenario → Option Said → Scenario
 with_any before None = before
 with_any before (Some said) = with_said before said
 
--- the scenario behind a line that isn't passed over
+-- the scenario behind a line that isn't refused
 abbrev pub with_said_line : Scenario → List ℕ → Scenario
 with_said_line before line = with_any before (said_of line)
 
--- the scenario behind a line that isn't refused
-abbrev pub with_line : Scenario → List ℕ → Scenario
-with_line before line = cond (is_passed_over line) before (with_said_line before line)
-
-abbrev pub unless_refused : Option ℕ → ℕ → Result Scenario Refusal → Result Scenario Refusal
-unless_refused None place others = others
-unless_refused (Some number) place others = Err (record { number = number; line = place })
-
--- what lines make of a scenario, the first of which stands at this place
-unfoldable pub read_from : Scenario → ℕ → List (List ℕ) → Result Scenario Refusal
-read_from before place [] = Ok before
-read_from before place (line ∷ lines) =
-    unless_refused (refusal_of before line) place (read_from (with_line before line) (place + 1) lines)
-
+-- no node and no event, and a window of one packet
 abbrev pub nothing_yet : Scenario
 nothing_yet = record { graph = record { nodes = []; edges = []; window = 1 }; packets = []; events = [] }
 
--- the scenario that a text is, or its first refused line; a text above the limit is none before all others
-unfoldable pub scenario_of : List ℕ → Result Scenario Refusal
-scenario_of text = cond (nat_lt 33554432 (length text)) (Err (record { number = 3; line = 0 })) (read_from nothing_yet 1 (lines_of text))
+-- ---- what a text is
 
--- the refusal that the text has; memory may be wanted too
-abbrev pub IsRefusalOf : Result Scenario Refusal → ScenarioFault → Type 0
-IsRefusalOf outcome (Refused number line) = outcome ≡ Err (record { number = number; line = line })
-IsRefusalOf outcome NoMemory = Unit {0}
+-- an edge whose filters' texts stand unread
+abbrev pub unread_edge : Edge → Edge
+unread_edge edge = record edge { filters = [] }
+
+-- a scenario whose filters' texts stand unread
+abbrev pub unread : Scenario → Scenario
+unread scenario = record scenario { graph = record scenario.graph { edges = map unread_edge scenario.graph.edges } }
+
+-- an edge's filters are what their texts spell
+abbrev pub IsEdgeRead : Edge → Type 0
+IsEdgeRead edge = AreRead edge.filters edge.texts
+
+-- the same scenario with its filters read, or the same refusal
+abbrev pub IsFilled : Result Scenario Refusal → Result Scenario Refusal → Type 0
+IsFilled (Ok said) (Ok scenario) = (unread scenario ≡ unread said) × All IsEdgeRead scenario.graph.edges
+IsFilled (Err first) (Err refusal) = refusal ≡ first
+IsFilled (Ok said) (Err refusal) = ⊥
+IsFilled (Err first) (Ok scenario) = ⊥
+
+-- the scenario that a text is, or its first refused line
+abbrev pub IsScenarioOf : List ℕ → Result Scenario Refusal → Type 0
+IsScenarioOf text outcome = (said : Result Scenario Refusal) × TextRead RefusesLine with_said_line nothing_yet text said × IsFilled said outcome
+
+-- ---- what two scenarios of one text have in common
+
+-- all but how their filters lie in memory
+pub record IsAlike (a b : Scenario) : Type 0 where
+  pub shape : shape a.graph ≡ shape b.graph
+  pub config : (node : ℕ) → config_of a.graph node ≡ config_of b.graph node
+  pub packets : a.packets ≡ b.packets
+  pub events : a.events ≡ b.events
+
+-- the same scenario but for how its filters lie in memory, or the same refusal
+abbrev pub AreAlike : Result Scenario Refusal → Result Scenario Refusal → Type 0
+AreAlike (Ok a) (Ok b) = IsAlike a b
+AreAlike (Err a) (Err b) = a ≡ b
+AreAlike (Ok a) (Err b) = ⊥
+AreAlike (Err a) (Ok b) = ⊥

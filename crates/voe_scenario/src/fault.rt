@@ -24,6 +24,8 @@ pub enum Rule {
     Limit,
     /// An identifier is none, or a name of an end.
     Identifier,
+    /// The name of a packet's parameter is none.
+    Parameter,
     /// A filter is refused.
     Filter,
 }
@@ -46,6 +48,7 @@ pub fn number_of(rule: Rule) -> u8
         Rule::Naming => 2,
         Rule::Limit => 3,
         Rule::Identifier => 4,
+        Rule::Parameter => 5,
         Rule::Filter => 6,
     }
 }

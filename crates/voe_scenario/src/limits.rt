@@ -7,6 +7,9 @@ pub const EDGES_LIMIT: usize = 256;
 /// The lines of an author, or the links of a broker.
 pub const LINKS_LIMIT: usize = 64;
 
+/// The parameters of a packet.
+pub const PARAMS_LIMIT: usize = 64;
+
 pub const PACKETS_LIMIT: usize = 1024;
 
 pub const EVENTS_LIMIT: usize = 1_000_000;

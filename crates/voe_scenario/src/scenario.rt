@@ -1,6 +1,7 @@
 //! What a text of a scenario gives.
 
-use net_model::{Event, Graph};
+use crate::graph::Graph;
+use net_model::Event;
 use voe_values::{Bytes, Listing};
 
 /// A graph, the packets that its authors may write, and the events in order.

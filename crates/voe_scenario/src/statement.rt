@@ -1,10 +1,13 @@
 //! What one line of a scenario says.
 
-ghost use Rattle.std.specs.Prelude.{◌≡◌, ◌∷◌, []};
-ghost use Rattle.voe_scenario.specs.Grammar.{edge_event_said, is_role as is_role_word, node_said, packet_said, pair_said, said_of, words_said};
+ghost use Rattle.std.specs.Prelude.{◌≡◌, ◌∷◌, [], cond, codes};
+ghost use Rattle.std.specs.Str.{bytes_eq};
+ghost use Rattle.voe_scenario.specs.Grammar.{alone_said, filter_said, one_said, pair_said, plain_said, said_of, text_said, words_said};
 ghost use Rattle.voe_scenario.specs.Statements.{Means};
 ghost use Rattle.voe_scenario.specs.Words.{words_of};
 
+use crate::event_line::{SaidEvent, read_stop};
+use crate::packet_line::{SaidPacket, read_packet_line};
 use crate::words::{cut_word, number, printable};
 use voe_values::NodeKind;
 
@@ -14,41 +17,38 @@ pub enum Statement<'a> {
     Node(NodeKind),
     Line { upper: u32, lower: u32 },
     Link { upper: u32, lower: u32 },
-    Packet { identifier: &'a str },
-    Write { author: u32, packet: u32 },
-    Send { edge: u32 },
-    Down { edge: u32 },
-    Up { edge: u32 },
+    Filter { edge: u32, text: &'a str },
+    Packet(SaidPacket<'a>),
+    Event(SaidEvent),
 }
 
-/// A node, by its kind.
-fn node_statement<'a>(word: &str) -> Option<Statement<'a>>
-    ensures { Means result (node_said word.now) }
+/// What a word says alone: a node by its kind, or a drain.
+fn alone_statement<'a>(word: &str) -> Option<Statement<'a>>
+    ensures { Means result (alone_said word.now) }
 {
-    if word == "author" {
-        Some(Statement::Node(NodeKind::Author))
-    } else if word == "broker" {
-        Some(Statement::Node(NodeKind::Broker))
-    } else if word == "subscriber" {
-        Some(Statement::Node(NodeKind::Subscriber))
-    } else {
-        None
+    match word {
+        "author" => Some(Statement::Node(NodeKind::Author)),
+        "broker" => Some(Statement::Node(NodeKind::Broker)),
+        "subscriber" => Some(Statement::Node(NodeKind::Subscriber)),
+        "drain" => Some(Statement::Event(SaidEvent::Drain)),
+        _ => None,
     }
 }
 
-/// An event on an edge.
-fn edge_event_statement<'a>(word: &str, edge: Option<u32>) -> Option<Statement<'a>>
-    ensures { Means result (edge_event_said word.now edge) }
+/// What happens at an edge or a node.
+fn one_statement<'a>(word: &str, number: Option<u32>) -> Option<Statement<'a>>
+    ensures { Means result (one_said word.now number) }
 {
-    let edge = edge?;
-    if word == "send" {
-        Some(Statement::Send { edge })
-    } else if word == "down" {
-        Some(Statement::Down { edge })
-    } else if word == "up" {
-        Some(Statement::Up { edge })
-    } else {
-        None
+    let number = number?;
+    match word {
+        "send" => Some(Statement::Event(SaidEvent::Send { edge: number })),
+        "down" => Some(Statement::Event(SaidEvent::Down { edge: number })),
+        "up" => Some(Statement::Event(SaidEvent::Up { edge: number })),
+        "cut" => Some(Statement::Event(SaidEvent::Cut { edge: number })),
+        "connect" => Some(Statement::Event(SaidEvent::Connect { edge: number })),
+        "crash" => Some(Statement::Event(SaidEvent::Crash { node: number })),
+        "open" => Some(Statement::Event(SaidEvent::Open { node: number })),
+        _ => None,
     }
 }
 
@@ -58,79 +58,82 @@ fn pair_statement<'a>(word: &str, first: Option<u32>, second: Option<u32>) -> Op
 {
     let first = first?;
     let second = second?;
-    if word == "line" {
-        Some(Statement::Line {
+    match word {
+        "line" => Some(Statement::Line {
             upper: first,
             lower: second,
-        })
-    } else if word == "link" {
-        Some(Statement::Link {
+        }),
+        "link" => Some(Statement::Link {
             upper: first,
             lower: second,
-        })
-    } else if word == "write" {
-        Some(Statement::Write {
+        }),
+        "write" => Some(Statement::Event(SaidEvent::Write {
             author: first,
             packet: second,
-        })
-    } else {
-        None
+        })),
+        _ => None,
     }
 }
 
-/// Tells whether a word is the role of a packet (VOEvent 2.0, "role").
-#[tactic(auto, unfolding(crate::specs::Grammar::is_role))]
-fn is_role(word: &str) -> bool
-    ensures { result ≡ is_role_word word.now }
+/// What a word says with up to two numbers behind it.
+fn plain_statement<'a>(word: &str, arguments: &str) -> Option<Statement<'a>>
+    ensures { Means result (plain_said word.now (words_of arguments.now)) }
 {
-    word == "observation" || word == "prediction" || word == "utility" || word == "test"
-}
-
-/// A packet, by its identifier and its role.
-fn packet_statement<'a>(identifier: &'a str, role: &str) -> Option<Statement<'a>>
-    ensures { Means result (packet_said identifier.now role.now) }
-{
-    if !identifier.is_empty() && is_role(role) {
-        Some(Statement::Packet { identifier })
-    } else {
-        None
+    let (first, rest) = cut_word(arguments);
+    let Some(rest) = rest else {
+        return one_statement(word, number(first));
+    };
+    let (second, more) = cut_word(rest);
+    match more {
+        Some(_) => None,
+        None => pair_statement(word, number(first), number(second)),
     }
 }
 
-/// What a word says with two more behind it.
-fn three_words<'a>(word: &str, first: &'a str, second: &str) -> Option<Statement<'a>>
-    ensures { Means result (words_said (word.now ∷ first.now ∷ second.now ∷ [])) }
+/// A filter, whose text isn't empty.
+fn filter_statement(arguments: &str) -> Option<Statement<'_>>
+    ensures { Means result (filter_said arguments.now) }
 {
-    if word == "packet" {
-        packet_statement(first, second)
+    let (edge, text) = cut_word(arguments);
+    let edge = number(edge)?;
+    let text = text?;
+    if text.is_empty() {
+        None
     } else {
-        pair_statement(word, number(first), number(second))
+        Some(Statement::Filter { edge, text })
     }
 }
 
 /// What a word says with what stands behind it.
 fn with_arguments<'a>(word: &str, arguments: &'a str) -> Option<Statement<'a>>
-    ensures { Means result (words_said (word.now ∷ words_of arguments.now)) }
+    ensures { Means result (cond (bytes_eq word.now (codes "filter")) (filter_said arguments.now) (words_said word.now (words_of arguments.now))) }
 {
-    let (first, rest) = cut_word(arguments);
-    let Some(rest) = rest else {
-        return edge_event_statement(word, number(first));
-    };
-    let (second, more) = cut_word(rest);
-    match more {
-        Some(_) => None,
-        None => three_words(word, first, second),
+    match word {
+        "filter" => filter_statement(arguments),
+        "packet" => read_packet_line(arguments),
+        "stop" => read_stop(arguments),
+        _ => plain_statement(word, arguments),
     }
 }
 
-/// What the words of a line say.
-fn words_statement(line: &str) -> Option<Statement<'_>>
-    ensures { Means result (words_said (words_of line.now)) }
+/// What a line of one word says, which is nothing where the word needs others behind it.
+fn lone_statement<'a>(word: &str) -> Option<Statement<'a>>
+    ensures { Means result (cond (bytes_eq word.now (codes "filter")) (filter_said []) (words_said word.now [])) }
+{
+    match word {
+        "filter" | "packet" | "stop" => None,
+        _ => alone_statement(word),
+    }
+}
+
+/// What a printable line says.
+fn text_statement(line: &str) -> Option<Statement<'_>>
+    ensures { Means result (text_said line.now) }
 {
     let (word, arguments) = cut_word(line);
     match arguments {
         Some(arguments) => with_arguments(word, arguments),
-        None => node_statement(word),
+        None => lone_statement(word),
     }
 }
 
@@ -139,5 +142,5 @@ fn words_statement(line: &str) -> Option<Statement<'_>>
 pub fn read_statement(line: &[u8]) -> Option<Statement<'_>>
     ensures { Means result (said_of line.now) }
 {
-    words_statement(printable(line)?)
+    text_statement(printable(line)?)
 }

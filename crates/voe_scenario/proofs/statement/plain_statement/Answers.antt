@@ -1,7 +1,7 @@
 -- A fourth word ends the grammar.
 use Rattle.std.proofs.Common.{◌==◌}
 use Rattle.voe_scenario.proofs.Pieces.{too_many_words}
-use Rattle.voe_scenario.proofs.statement.with_arguments.Goals as goal
+use Rattle.voe_scenario.proofs.statement.plain_statement.Goals as goal
 
 pub returns-in-Some-more : goal.returns-in-Some-more
 returns-in-Some-more c =
