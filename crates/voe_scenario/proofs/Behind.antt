@@ -1,5 +1,5 @@
 -- Words one after another.
-use Rattle.std.proofs.Common.{◌≡◌, ℕ, ◌+◌, ◌<◌, List, [], ◌∷◌, Option, Some, None, IfNone, IfSome, length, Bor, arith}
+use Rattle.std.proofs.Common.{◌≡◌, ℕ, List, [], ◌∷◌, Option, Some, None, IfNone, IfSome, Bor}
 use Rattle.voe_scenario.specs.Statements.{words_in}
 use Rattle.voe_scenario.specs.Words.{words_of}
 

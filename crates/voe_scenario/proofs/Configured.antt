@@ -1,24 +1,20 @@
 -- Each node of a sound scenario may be configured.
-use Rattle.std.proofs.Common.{◌≡◌, ℕ, ◌+◌, ◌^◌, ◌==◌, ◌<◌, ◌≤◌, ◌&&◌, Bool, true, false, cond, List, [], ◌∷◌, ◌++◌, Some, slice_get, length, map, refl, sym, ◌∙◌, ap, arith, subst, get_or, codes, length-append, inl, inr, ◌⊎◌}
+use Rattle.std.proofs.Common.{◌≡◌, ℕ, suc, ◌+◌, ◌^◌, ◌==◌, ◌<◌, Bool, true, false, cond, List, [], ◌∷◌, ◌++◌, Some, slice_get, length, map, refl, ap, arith, get_or, codes, length-append, inl, inr}
 use Rattle.std.proofs.lemmas.Bool.{le-leb}
-use Rattle.std.proofs.lemmas.List.{length-map}
 use Rattle.std.proofs.lemmas.List.Elements.{All-filter, All-head, All-tail}
 use Rattle.std.proofs.lemmas.List.Sums.{list_all-from_AllPass}
 use Rattle.std.proofs.lemmas.Option.{slice_get-get_or, slice_get-map, slice_get_within}
 use Rattle.std.specs.Fmt.{decimal}
 use Rattle.std.specs.List.{All, filter, list_all, list_any}
-use Rattle.net_model.specs.declared.scenario.Edge as plain_edge
-use Rattle.net_model.specs.Nodes.{links_of}
 use Rattle.node_notes.specs.Forms.{is_config, is_filter, is_link, is_name}
 use Rattle.node_notes.specs.declared.config.LinkConfig.{LinkConfig}
 use Rattle.path_filter.specs.Links.{AreOf, AreReadable}
-use Rattle.path_filter.specs.Sets.{AreRead, Filters}
 use Rattle.voe_scenario.specs.declared.graph.Edge.{Edge}
 use Rattle.voe_scenario.specs.declared.graph.Graph.{Graph}
 use Rattle.voe_scenario.specs.declared.scenario.Scenario.{Scenario}
 use Rattle.voe_scenario.specs.Filters.{AreFilters}
-use Rattle.voe_scenario.specs.Scenarios.{IsEdgeRead, unread, unread_edge}
-use Rattle.voe_scenario.specs.Shapes.{config_of, edges_out, ends_of, link_name, links_behind, node_name, shape}
+use Rattle.voe_scenario.specs.Scenarios.{IsEdgeRead}
+use Rattle.voe_scenario.specs.Shapes.{config_of, edges_from, ends_of, link_name, links_behind, node_name}
 use Rattle.voe_scenario.specs.Sound.{IsSound, IsSoundSoFar}
 use Rattle.voe_scenario.proofs.NodeNames.{node_named, numbered_named}
 
@@ -54,7 +50,7 @@ links_form earlier (edge ∷ edges) few fit =
 
 links_many : (earlier : List ℕ) (edges : List Edge) → length (links_behind earlier edges) ≡ length edges
 links_many earlier [] = refl
-links_many earlier (edge ∷ edges) = ap (λ n. n + 1) (links_many (earlier ++ edge.lower ∷ []) edges)
+links_many earlier (edge ∷ edges) = ap suc (links_many (earlier ++ edge.lower ∷ []) edges)
 
 -- as many edges lead out of a node in the plain graph
 out_many : (node : ℕ) (edges : List Edge) → length (filter (λ e. e.upper == node) edges) ≡ length (filter (λ e. e.upper == node) (map ends_of edges))
@@ -64,7 +60,7 @@ out_many node (edge ∷ edges) =
     ≡ length (cond b (ends_of edge ∷ filter (λ e. e.upper == node) (map ends_of edges)) (filter (λ e. e.upper == node) (map ends_of edges)))
     = λ b. elim b as (λ b. length (cond b (edge ∷ filter (λ e. e.upper == node) edges) (filter (λ e. e.upper == node) edges))
     ≡ length (cond b (ends_of edge ∷ filter (λ e. e.upper == node) (map ends_of edges)) (filter (λ e. e.upper == node) (map ends_of edges)))) [
-      | true ↦ ap (λ n. n + 1) (out_many node edges)
+      | true ↦ ap suc (out_many node edges)
       | false ↦ out_many node edges
     ] in
     choose (edge.upper == node)
@@ -95,7 +91,7 @@ unfolding is_config
 node_config scenario sound node within =
     let few = sound.nodes in
     let named = node_named node (omega arith) in
-    let out = edges_out scenario.graph node in
+    let out = edges_from node scenario.graph.edges in
     let many = links_many [] out in
     let same = out_many node scenario.graph.edges in
     let most = sound.links node in
@@ -111,7 +107,7 @@ are_of earlier (edge ∷ edges) read =
 
 readable : (graph : Graph) → All IsEdgeRead graph.edges → (node : ℕ) → AreReadable (config_of graph node).links
 readable graph read node =
-    (map (λ e. e.filters) (edges_out graph node), are_of [] (edges_out graph node) (All-filter (λ edge. edge.upper == node) IsEdgeRead graph.edges read))
+    (map (λ e. e.filters) (edges_from node graph.edges), are_of [] (edges_from node graph.edges) (All-filter (λ edge. edge.upper == node) IsEdgeRead graph.edges read))
 
 pub sound_when_read : (scenario : Scenario) → IsSoundSoFar scenario → All IsEdgeRead scenario.graph.edges → IsSound scenario
 sound_when_read scenario sound read = record {

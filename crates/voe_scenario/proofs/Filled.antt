@@ -14,7 +14,7 @@ use Rattle.voe_scenario.specs.Faults.{IsTextFault}
 use Rattle.voe_scenario.specs.Filters.{AreFilters}
 use Rattle.voe_scenario.specs.Lines.{TextRead}
 use Rattle.voe_scenario.specs.Refusals.{RefusesLine}
-use Rattle.voe_scenario.specs.Scenarios.{IsEdgeRead, IsScenarioOf, nothing_yet, unread, unread_edge, with_said_line}
+use Rattle.voe_scenario.specs.Scenarios.{IsEdgeRead, IsScenarioOf, nothing_yet, unread_edge, with_said_line}
 use Rattle.voe_scenario.specs.Shapes.{ends_of, shape}
 use Rattle.voe_scenario.specs.Sound.{IsNamed, IsSound, IsSoundSoFar, MayHaveTexts}
 use Rattle.voe_scenario.proofs.Configured.{sound_when_read}
@@ -62,6 +62,7 @@ sound_moved before edges same sound =
       bare = moved (MayHaveTexts before.graph) (λ e is. is) (λ e is. is) before.graph.edges edges same sound.bare;
       named = subst (λ g. All (IsNamed g before.packets) before.events) shaped sound.named;
       short = sound.short;
+      drafted = sound.drafted;
     }
 
 pub sound_filled : (before : Scenario) (edges : List Edge) → map unread_edge edges ≡ map unread_edge before.graph.edges → All IsEdgeRead edges
@@ -82,10 +83,10 @@ edge_read (e ∷ edges) (suc at) old new is before read =
     All-cons IsEdgeRead e (take (suc at) (slice_set edges at new)) (All-head IsEdgeRead e (take at edges) before)
     (edge_read edges at old new is (All-tail IsEdgeRead e (take at edges) before) read)
 
-pub one_more_read : (edges after : List Edge) (at : ℕ) (old new : Edge) → after ≡ slice_set edges at new → slice_get edges at ≡ Some old → All IsEdgeRead (take at edges) → IsEdgeRead new
-    → All IsEdgeRead (take (at + 1) after)
-one_more_read edges after at old new set is before read = rw (set, add-one at) (edge_read edges at old new is before read)
+pub one_more_read : (edges : List Edge) (at : ℕ) (old new : Edge) → slice_get edges at ≡ Some old → All IsEdgeRead (take at edges) → IsEdgeRead new
+    → All IsEdgeRead (take (at + 1) (slice_set edges at new))
+one_more_read edges at old new is before read = rw (add-one at) (edge_read edges at old new is before read)
 
-pub one_more_same : (edges after : List Edge) (at : ℕ) (old new : Edge) → after ≡ slice_set edges at new → slice_get edges at ≡ Some old → unread_edge new ≡ unread_edge old
-    → map unread_edge after ≡ map unread_edge edges
-one_more_same edges after at old new set is same = ap (map unread_edge) set ∙ map_set_same unread_edge edges at old new is same
+pub one_more_same : (edges : List Edge) (at : ℕ) (old new : Edge) → slice_get edges at ≡ Some old → unread_edge new ≡ unread_edge old
+    → map unread_edge (slice_set edges at new) ≡ map unread_edge edges
+one_more_same edges at old new is same = map_set_same unread_edge edges at old new is same

@@ -1,6 +1,6 @@
 -- A line that breaks no rule keeps a scenario sound.
-use Rattle.std.proofs.Common.{◌≡◌, ℕ, ◌+◌, ◌*◌, ◌-◌, ◌==◌, ◌&&◌, zero, suc, ◌<◌, ◌≤◌, true, false, not, ◌⊎◌, inl, inr, List, [], ◌∷◌, ◌++◌, Option, Some, None, option_map, Result, Ok, Err, OnOk, slice_get, slice_set, length, map, nat_lt, nat_le, refl, sym, ◌∙◌, ap, arith, length-append, length-set, subst, Bool}
-use Rattle.std.proofs.lemmas.Bool.{cases_Bool, false≢true, leb-true}
+use Rattle.std.proofs.Common.{◌≡◌, ℕ, ◌+◌, ◌*◌, ◌-◌, ◌==◌, ◌&&◌, zero, suc, ◌<◌, ◌≤◌, true, false, IsTrue, ◌⊎◌, inl, inr, List, [], ◌∷◌, ◌++◌, Option, Some, None, Result, Ok, Err, OnOk, slice_get, slice_set, length, map, nat_lt, nat_le, refl, sym, ap, arith, length-append, length-set, subst}
+use Rattle.std.proofs.lemmas.Bool.{cases_Bool, leb-true}
 use Rattle.std.proofs.lemmas.Bool.Decides.{nat_tests}
 use Rattle.std.proofs.lemmas.List.{length-map, map-append}
 use Rattle.std.proofs.lemmas.List.Elements.{All-push, All-set, All-weaker, filter-append}
@@ -8,6 +8,7 @@ use Rattle.std.proofs.lemmas.Option.{get_or_from_slice_get, slice_get_within}
 use Rattle.std.specs.List.{All, filter, list_all}
 use Rattle.voe_values.specs.declared.kind.NodeKind.{NodeKind}
 use Rattle.voe_values.specs.declared.kind.NodeKind.TheVariants.{Author, Broker, Subscriber}
+use Rattle.voe_values.specs.Identifier.{IsIdentifier}
 use Rattle.net_model.specs.declared.scenario.Edge as plain_edge
 use Rattle.net_model.specs.declared.scenario.Graph as plain
 use Rattle.net_model.specs.declared.scenario.Event.{Event}
@@ -17,7 +18,7 @@ use Rattle.net_model.specs.declared.scenario.Inner.TheVariants.{Write as InWrite
 use Rattle.net_model.specs.Draining.{IsProper}
 use Rattle.net_model.specs.Laws.{IsA}
 use Rattle.net_model.specs.Nodes.{links_of}
-use Rattle.voe_packet.specs.Drafts.{packet_text, params_size}
+use Rattle.voe_packet.specs.Drafts.{fits_packet, packet_text, params_size}
 use Rattle.voe_packet.specs.declared.draft.Draft.{Draft}
 use Rattle.voe_scenario.specs.declared.graph.Edge.{Edge}
 use Rattle.voe_scenario.specs.declared.graph.Graph.{Graph}
@@ -28,12 +29,12 @@ use Rattle.voe_scenario.specs.Graphs.{is_kind}
 use Rattle.voe_scenario.specs.Refusals.{can_write, count_texts, has_room_for_edge, is_event_named, is_inner_named, leaves_broker}
 use Rattle.voe_scenario.specs.Scenarios.{nothing_yet, with_edge, with_said, with_text}
 use Rattle.voe_scenario.specs.Shapes.{ends_of, shape}
-use Rattle.voe_scenario.specs.Sound.{IsInnerNamed, IsNamed, IsShort, IsSoundSoFar, MayHaveTexts}
-use Rattle.voe_scenario.specs.Taking.{IsFitting, MayBeWritten, BringsPacket}
+use Rattle.voe_scenario.specs.Sound.{IsDrafted, IsInnerNamed, IsNamed, IsShort, IsSoundSoFar, MayHaveTexts}
+use Rattle.voe_scenario.specs.Taking.{IsFitting, BringsPacket}
 use Rattle.voe_scenario.specs.Words.{is_printable}
-use Rattle.voe_scenario.proofs.ConfigKept.{at_most, filters_pushed, no_filters}
-use Rattle.voe_scenario.proofs.Names.{IsJoined, both, is_kind-true, joins_line-true, joins_link-true, named_below}
-use Rattle.voe_scenario.proofs.Spoken.{IsSpoken, IsSpokenDraft, IsSpokenEvent, spoken}
+use Rattle.voe_scenario.proofs.ConfigKept.{filters_pushed, no_filters}
+use Rattle.voe_scenario.proofs.Names.{IsJoined, both, is_kind-true, joins_line-true, joins_link-true}
+use Rattle.voe_scenario.proofs.Spoken.{IsSpokenDraft, IsSpokenEvent, spoken}
 
 equal : (m n : ℕ) → (m == n) ≡ true → m ≡ n
 equal m n is = grind (arith, nat_tests)
@@ -78,7 +79,7 @@ pushed_get (z ∷ xs) x zero y is = inl is
 pushed_get (z ∷ xs) x (suc at) y is = pushed_get xs x at y is
 
 -- the plain graph with one edge more
-one_more : plain.Graph → plain_edge.Edge → plain.Graph
+abbrev one_more : plain.Graph → plain_edge.Edge → plain.Graph
 one_more graph edge = record graph { edges = graph.edges ++ edge ∷ [] }
 
 proper_edge : (graph : plain.Graph) (edge : plain_edge.Edge) → IsProper graph → IsJoined graph.nodes edge → IsProper (one_more graph edge)
@@ -109,19 +110,17 @@ links_kept graph edge n few room =
     rw (filter-append (λ other. other.upper == n) graph.edges (edge ∷ []))
     (omega (arith, length-append (filter (λ other. other.upper == n) graph.edges) (filter (λ other. other.upper == n) (edge ∷ []))))
 
-new_edge : ℕ → ℕ → Edge
+abbrev new_edge : ℕ → ℕ → Edge
 new_edge upper lower = record { upper = upper; lower = lower; filters = []; texts = [] }
 
 shape_pushed : (graph : Graph) (upper lower : ℕ)
     → shape (record graph { edges = graph.edges ++ new_edge upper lower ∷ [] }) ≡ one_more (shape graph) (record { upper = upper; lower = lower })
-unfolding one_more new_edge
 shape_pushed graph upper lower =
     ap (λ es. record { nodes = graph.nodes; edges = es; window = graph.window }) (map-append ends_of graph.edges (new_edge upper lower ∷ []))
 
 edge_kept : (before : Scenario) (upper lower : ℕ) → IsSoundSoFar before → nat_lt 0 (length before.events) ≡ false
     → IsJoined before.graph.nodes (record { upper = upper; lower = lower }) → has_room_for_edge before.graph upper ≡ true
     → IsSoundSoFar (with_edge before upper lower)
-unfolding new_edge
 edge_kept before upper lower sound placed joined within =
     let parts = both (nat_lt (length before.graph.edges) 256) (nat_lt (links_of (shape before.graph) upper) 64) within in
     let edge : plain_edge.Edge = record { upper = upper; lower = lower } in
@@ -139,6 +138,7 @@ edge_kept before upper lower sound placed joined within =
       bare = All-push (MayHaveTexts after.graph) before.graph.edges (new_edge upper lower) sound.bare (inl refl);
       named = all_of_none (IsNamed (shape after.graph) after.packets) before.events (no_event (length before.events) placed);
       short = sound.short;
+      drafted = sound.drafted;
     }
 
 node_kept : (before : Scenario) (kind : NodeKind) → IsSoundSoFar before → nat_lt 0 (length before.events) ≡ false
@@ -161,6 +161,7 @@ node_kept before kind sound placed within =
       bare = All-weaker (MayHaveTexts before.graph) (MayHaveTexts after.graph) bare before.graph.edges sound.bare;
       named = all_of_none (IsNamed (shape after.graph) after.packets) before.events (no_event (length before.events) placed);
       short = sound.short;
+      drafted = sound.drafted;
     }
 
 -- ---- filters
@@ -202,13 +203,14 @@ text_kept before at text (Some edge) is sound placed leaves some within reads =
       bare = All-set (MayHaveTexts after.graph) before.graph.edges at more (inr broker) sound.bare;
       named = all_of_none (IsNamed (shape after.graph) after.packets) before.events (no_event (length before.events) placed);
       short = sound.short;
+      drafted = sound.drafted;
     }
 
 -- ---- packets and events
 
 packet_kept : (before : Scenario) (draft : Draft) → IsSoundSoFar before → nat_lt 0 (length before.events) ≡ false
-    → nat_lt (length before.packets) 1024 ≡ true → IsShort (packet_text draft) → IsSoundSoFar (with_said before (says_packet draft))
-packet_kept before draft sound placed within short =
+    → nat_lt (length before.packets) 1024 ≡ true → IsShort (packet_text draft) → IsDrafted (packet_text draft) → IsSoundSoFar (with_said before (says_packet draft))
+packet_kept before draft sound placed within short drafted =
     let after = with_said before (says_packet draft) in
     record {
       nodes = sound.nodes;
@@ -222,6 +224,7 @@ packet_kept before draft sound placed within short =
       bare = sound.bare;
       named = all_of_none (IsNamed (shape after.graph) after.packets) before.events (no_event (length before.events) placed);
       short = All-push IsShort before.packets (packet_text draft) sound.short short;
+      drafted = All-push IsDrafted before.packets (packet_text draft) sound.drafted drafted;
     }
 
 event_kept : (before : Scenario) (event : Event) → IsSoundSoFar before → IsNamed (shape before.graph) before.packets event
@@ -238,6 +241,7 @@ event_kept before event sound named within = record {
   bare = sound.bare;
   named = All-push (IsNamed (shape before.graph) before.packets) before.events event sound.named named;
   short = sound.short;
+  drafted = sound.drafted;
 }
 
 edge_named : (before : Scenario) (edge : ℕ) → nat_lt edge (length before.graph.edges) ≡ true → edge < length (shape before.graph).edges
@@ -267,8 +271,9 @@ event_named before Drain is said = tt
 
 -- ---- a line
 
--- every packet has bytes, and what a draft is written as is bounded by its texts
+-- a draft of short texts fits, every packet has bytes, and what a draft is written as is bounded by its texts
 pub record PacketsAreBounded : Type 0 where
+  pub fits : (d : Draft) → length d.identifier + params_size d.params ≤ 4096 → length d.params ≤ 64 → d.citations ≡ [] → IsTrue (fits_packet d)
   pub some : (d : Draft) → 0 < length (packet_text d)
   pub bound : (d : Draft) → d.citations ≡ [] → length (packet_text d) ≤ 131 + 6 * length d.identifier + 25 * length d.params + 6 * params_size d.params
 
@@ -277,6 +282,19 @@ short_packet bounded line draft said short few =
     let bound = bounded.bound draft said.uncited in
     let size = said.size in
     (bounded.some draft, omega arith)
+
+drafted_packet : PacketsAreBounded → (line : List ℕ) (draft : Draft) → IsSpokenDraft line draft → IsIdentifier draft.identifier → length line ≤ 2048 → length draft.params ≤ 64
+    → IsDrafted (packet_text draft)
+drafted_packet bounded line draft said identified short few =
+    let size = said.size in
+    let none = said.uncited in
+    record {
+      draft = draft;
+      identifiers = rw (identified, none) refl;
+      texts = said.texts;
+      fits = bounded.fits draft (omega arith) few none;
+      written = refl;
+    }
 
 pub kept : PacketsAreBounded → (before : Scenario) (line : List ℕ) (said : Said) → IsSoundSoFar before → IsFitting before line said → IsSoundSoFar (with_said before said)
 kept bounded before line (says_node kind) sound fitting = node_kept before kind sound fitting.stands.placed fitting.stands.within
@@ -290,8 +308,10 @@ kept bounded before line (says_filter edge text) sound fitting =
 kept bounded before line (says_packet draft) sound fitting =
     let parts = both (nat_le (length draft.identifier) 512 && nat_le (length draft.params) 64) (nat_lt (length before.packets) 1024) fitting.stands.within in
     let few = both (nat_le (length draft.identifier) 512) (nat_le (length draft.params) 64) parts.0 in
-    packet_kept before draft sound fitting.stands.placed parts.1
-    (short_packet bounded line draft (spoken line (says_packet draft) fitting.says) fitting.stands.short (leb-true (length draft.params) 64 few.1))
+    let said = spoken line (says_packet draft) fitting.says in
+    let params = leb-true (length draft.params) 64 few.1 in
+    packet_kept before draft sound fitting.stands.placed parts.1 (short_packet bounded line draft said fitting.stands.short params)
+    (drafted_packet bounded line draft said fitting.stands.identified fitting.stands.short params)
 kept bounded before line (says_event event) sound fitting =
     event_kept before event sound (event_named before event fitting.stands.named (spoken line (says_event event) fitting.says)) fitting.stands.within
 
@@ -325,4 +345,5 @@ nothing_sound = record {
   bare = λ k d h. absurd (omega arith);
   named = λ k d h. absurd (omega arith);
   short = λ k d h. absurd (omega arith);
+  drafted = λ k d h. absurd (omega arith);
 }

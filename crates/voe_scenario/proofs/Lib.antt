@@ -10,6 +10,7 @@ pub mod Turns
 pub mod Once
 pub mod Same
 pub mod NodeNames
+pub mod Linked
 pub mod Configured
 pub mod Filled
 pub mod ConfigKept

@@ -1,16 +1,13 @@
 -- What two scenarios that differ in their filters alone have in common.
-use Rattle.std.proofs.Common.{◌≡◌, ℕ, ◌==◌, Bool, true, false, cond, List, [], ◌∷◌, ◌++◌, Option, None, Result, Ok, Err, map, refl, sym, ◌∙◌, ap}
+use Rattle.std.proofs.Common.{◌≡◌, ℕ, ◌==◌, Bool, true, false, cond, List, [], ◌∷◌, ◌++◌, Option, Result, Ok, Err, map, refl, sym, ◌∙◌, ap}
 use Rattle.std.specs.List.{filter}
-use Rattle.net_model.specs.declared.scenario.Graph as plain
-use Rattle.node_notes.specs.declared.config.Config.{Config}
 use Rattle.voe_scenario.specs.declared.graph.Edge.{Edge}
-use Rattle.voe_scenario.specs.declared.graph.Graph.{Graph}
 use Rattle.voe_scenario.specs.declared.scenario.Scenario.{Scenario}
 use Rattle.voe_scenario.specs.Grammar.{said_of}
 use Rattle.voe_scenario.specs.Lines.{Refusal}
 use Rattle.voe_scenario.specs.Refusals.{RefusesLine, filter_brought, scenario_rules}
 use Rattle.voe_scenario.specs.Scenarios.{AreAlike, IsAlike, IsFilled, IsScenarioOf, nothing_yet, unread, unread_edge, with_said_line}
-use Rattle.voe_scenario.specs.Shapes.{config_of, edges_out, ends_of, link_name, links_behind, shape}
+use Rattle.voe_scenario.specs.Shapes.{config_of, ends_of, link_name, links_behind, shape}
 use Rattle.voe_scenario.proofs.Once.{least_once, text_once}
 
 -- the ends of unread edges are the same

@@ -1,5 +1,5 @@
 -- What a line may say.
-use Rattle.std.proofs.Common.{◌≡◌, ℕ, zero, suc, ◌+◌, ◌<◌, ◌≤◌, ◌&&◌, Bool, true, false, cond, IsTrue, List, [], ◌∷◌, Option, Some, None, codes, length, map, nat_le, refl, arith, take, drop, length-append, ◌==◌, subst}
+use Rattle.std.proofs.Common.{◌≡◌, ℕ, zero, suc, ◌+◌, ◌<◌, ◌≤◌, ◌&&◌, Bool, true, false, cond, IsTrue, List, [], ◌∷◌, Option, Some, None, codes, length, map, nat_le, refl, arith, take, drop, ◌==◌, subst}
 use Rattle.std.proofs.lemmas.Bool.{leb-true}
 use Rattle.std.proofs.lemmas.Bool.Decides.{nat_tests}
 use Rattle.std.proofs.lemmas.List.{length-take, length-drop}
@@ -9,13 +9,12 @@ use Rattle.std.specs.Str.{bytes_eq}
 use Rattle.xml_lexer.specs.Characters.{is_xml_character}
 use Rattle.voe_tree.specs.Texts.{is_xml_text}
 use Rattle.voe_values.specs.declared.citation.Role.{Role}
-use Rattle.voe_values.specs.declared.kind.NodeKind.TheVariants.{Author, Broker, Subscriber}
 use Rattle.net_model.specs.declared.scenario.Event.{Event}
 use Rattle.net_model.specs.declared.scenario.Event.TheVariants.{Write, Send, Down, Up, Cut, Connect, Crash, Reopen, Stop, Drain}
 use Rattle.net_model.specs.declared.scenario.Inner.{Inner}
 use Rattle.voe_packet.specs.Drafts.{has_xml_texts, is_xml_param, params_size}
 use Rattle.voe_packet.specs.declared.draft.Draft.{Draft}
-use Rattle.voe_scenario.specs.Grammar.{Said, says_node, says_line, says_link, says_filter, says_packet, says_event, alone_said, one_said, pair_said, plain_said, stopped, stop_said, inner_said, is_equals, has_equals, param_in, drafted, packet_said, packet_words_said, role_said, filter_of, filter_said, words_said, split_said, text_said, said_of}
+use Rattle.voe_scenario.specs.Grammar.{Said, says_node, says_line, says_link, says_filter, says_packet, says_event, alone_said, one_said, pair_said, plain_said, stopped, stop_said, inner_said, is_equals, has_equals, param_in, drafted, packet_words_said, role_said, filter_of, filter_said, split_said, text_said, said_of}
 use Rattle.voe_scenario.specs.Words.{behind_word, first_word, is_blank, is_printable, number_of, words_of}
 use Rattle.voe_scenario.proofs.ConfigKept.{passing_parts, passing_rest}
 use Rattle.voe_scenario.proofs.Printable.{both, printable_ascii}
@@ -45,7 +44,7 @@ passing_front q (suc n) (x ∷ xs) all =
 
 -- ---- how long words are
 
-total : List (List ℕ) → ℕ
+abbrev pub total : List (List ℕ) → ℕ
 total [] = 0
 total (word ∷ words) = length word + total words
 
@@ -57,8 +56,8 @@ parts_total : (p : ℕ → Bool) (xs : List ℕ) → total (slice_split p xs) �
 parts_total p [] = omega arith
 parts_total p (x ∷ xs) =
     let others = parts_total p xs in
-    let choose : (b : Bool) → total (cond b ([] ∷ slice_split p xs) (onto_first x (slice_split p xs))) ≤ length xs + 1
-    = λ b. elim b as (λ b. total (cond b ([] ∷ slice_split p xs) (onto_first x (slice_split p xs))) ≤ length xs + 1) [
+    let choose : (b : Bool) → total (cond b ([] ∷ slice_split p xs) (onto_first x (slice_split p xs))) ≤ suc (length xs)
+    = λ b. elim b as (λ b. total (cond b ([] ∷ slice_split p xs) (onto_first x (slice_split p xs))) ≤ suc (length xs)) [
       | true ↦ omega arith
       | false ↦ let first = first_total x (slice_split p xs) in omega arith
     ] in
@@ -171,7 +170,7 @@ module _ (line : List ℕ) where
   spoken_drafted identifier (Some role) words named printed small =
       spoken_if (list_all has_equals words) _
       (λ is. record {
-        texts = rw (printed_xml identifier named, params_xml words printed) tt;
+        texts = rw (printed_xml identifier named, params_xml words printed) refl;
         size = let params = params_total words in omega arith;
         uncited = refl;
       })

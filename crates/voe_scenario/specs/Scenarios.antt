@@ -1,12 +1,9 @@
 -- The scenario that a text is, or the first line that is refused.
 use Rattle.std.specs.Prelude.{◌≡◌, ℕ, List, [], ◌∷◌, ◌++◌, Option, Some, None, Result, Ok, Err, map, slice_get, slice_set}
 use Rattle.std.specs.List.{All}
-use Rattle.net_model.specs.declared.scenario.Event.{Event}
-use Rattle.node_notes.specs.declared.config.Config.{Config}
 use Rattle.voe_packet.specs.Drafts.{packet_text}
 use Rattle.path_filter.specs.Sets.{AreRead}
 use Rattle.voe_scenario.specs.declared.graph.Edge.{Edge}
-use Rattle.voe_scenario.specs.declared.graph.Graph.{Graph}
 use Rattle.voe_scenario.specs.declared.scenario.Scenario.{Scenario}
 use Rattle.voe_scenario.specs.Grammar.{Said, says_node, says_line, says_link, says_filter, says_packet, says_event, said_of}
 use Rattle.voe_scenario.specs.Lines.{Refusal, TextRead}

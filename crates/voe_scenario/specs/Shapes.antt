@@ -31,14 +31,14 @@ abbrev pub links_behind : List ℕ → List Edge → List LinkConfig
 links_behind earlier [] = []
 links_behind earlier (edge ∷ edges) = record { name = link_name earlier edge.lower; filters = edge.texts } ∷ links_behind (earlier ++ edge.lower ∷ []) edges
 
--- the edges out of this node
-abbrev pub edges_out : Graph → ℕ → List Edge
-edges_out graph node = filter (λ edge. edge.upper == node) graph.edges
+-- those of the edges that lead out of this node
+abbrev pub edges_from : ℕ → List Edge → List Edge
+edges_from node edges = filter (λ edge. edge.upper == node) edges
 
 -- how the node of this number is configured
 abbrev pub config_of : Graph → ℕ → Config
 config_of graph node = record {
   kind = get_or graph.nodes node Subscriber;
   name = node_name node;
-  links = links_behind [] (edges_out graph node);
+  links = links_behind [] (edges_from node graph.edges);
 }

@@ -1,5 +1,5 @@
 -- What holds of each scenario that a text is.
-use Rattle.std.specs.Prelude.{◌≡◌, ℕ, ◌≤◌, ◌<◌, ◌⊎◌, true, List, [], length}
+use Rattle.std.specs.Prelude.{◌≡◌, ℕ, ◌≤◌, ◌<◌, ◌⊎◌, IsTrue, true, List, [], length}
 use Rattle.std.specs.List.{All}
 use Rattle.voe_values.specs.declared.kind.NodeKind.TheVariants.{Author, Broker}
 use Rattle.net_model.specs.declared.scenario.Graph as plain
@@ -12,6 +12,8 @@ use Rattle.net_model.specs.Laws.{IsA}
 use Rattle.net_model.specs.Nodes.{links_of}
 use Rattle.node_notes.specs.Forms.{is_config}
 use Rattle.path_filter.specs.Links.{AreReadable}
+use Rattle.voe_packet.specs.Drafts.{fits_packet, has_identifiers, has_xml_texts, packet_text}
+use Rattle.voe_packet.specs.declared.draft.Draft.{Draft}
 use Rattle.voe_scenario.specs.declared.graph.Edge.{Edge}
 use Rattle.voe_scenario.specs.declared.graph.Graph.{Graph}
 use Rattle.voe_scenario.specs.declared.scenario.Scenario.{Scenario}
@@ -45,6 +47,14 @@ IsNamed graph packets Drain = Unit {0}
 abbrev pub IsShort : List ℕ → Type 0
 IsShort packet = (0 < length packet) × (length packet < 16384)
 
+-- the bytes that a draft is written as, which may be written and read back
+pub record IsDrafted (packet : List ℕ) : Type 0 where
+  pub draft : Draft
+  pub identifiers : IsTrue (has_identifiers draft)
+  pub texts : IsTrue (has_xml_texts draft)
+  pub fits : IsTrue (fits_packet draft)
+  pub written : packet ≡ packet_text draft
+
 -- only an edge out of a broker has filters
 abbrev pub MayHaveTexts : Graph → Edge → Type 0
 MayHaveTexts graph edge = (edge.texts ≡ []) ⊎ IsA (shape graph) edge.upper Broker
@@ -62,6 +72,7 @@ pub record IsSoundSoFar (scenario : Scenario) : Type 0 where
   pub bare : All (MayHaveTexts scenario.graph) scenario.graph.edges
   pub named : All (IsNamed (shape scenario.graph) scenario.packets) scenario.events
   pub short : All IsShort scenario.packets
+  pub drafted : All IsDrafted scenario.packets
 
 -- the same of a text's scenario, whose filters are read, and each node of which may be configured
 pub record IsSound (scenario : Scenario) : Type 0 where

@@ -1,8 +1,9 @@
 //! Graphs whose links have filters.
 
-ghost use Rattle.std.specs.Prelude.{◌≡◌, ◌<◌, ◌++◌, ◌∷◌, ◌==◌, [], IfOk, OnOk, codes, filter, length, map};
+ghost use Rattle.std.specs.Prelude.{◌≡◌, ◌<◌, ◌++◌, ◌∷◌, ◌==◌, List, [], IfOk, OnOk, codes, length, map};
 ghost use Rattle.std.specs.Fmt.{decimal};
-ghost use Rattle.voe_scenario.specs.Shapes.{config_of, ends_of, link_name as named_link, links_behind, node_name as named_node, shape};
+ghost use Rattle.std.specs.List.{list_any};
+ghost use Rattle.voe_scenario.specs.Shapes.{config_of, edges_from, ends_of, link_name as named_link, links_behind, node_name as named_node, shape};
 
 use node_notes::{Config, LinkConfig};
 use path_filter::FilterSet;
@@ -90,11 +91,18 @@ fn numbered_name(alloc: Global, node: u8, number: usize) -> Result<EndName, NoMe
     EndName::of(alloc, text.as_str())
 }
 
+/// Tells whether the node is one of these.
+fn has_node(nodes: &[u8], node: u8) -> bool
+    ensures { result ≡ list_any (λ other. other == node) nodes.now }
+{
+    nodes.iter().any(|other| *other == node)
+}
+
 /// The name of a line or link, where the earlier ones lead to these nodes.
 fn link_name(alloc: Global, earlier: &[u8], lower: u8) -> Result<EndName, NoMemory>
     ensures { IfOk result (λ name. name ≡ named_link earlier.now lower) }
 {
-    if earlier.iter().any(|other| *other == lower) {
+    if has_node(earlier, lower) {
         numbered_name(alloc, lower, earlier.len())
     } else {
         node_name(alloc, lower)
@@ -141,16 +149,31 @@ fn add_link(
     earlier.push(edge.lower).map_err(|refused| refused.1)
 }
 
+/// Adds an edge's line or link, where the edge leads out of the node.
+fn take_edge(
+    alloc: Global,
+    links: &mut Listing<LinkConfig>,
+    earlier: &mut Listing<u8>,
+    edge: &Edge,
+    node: u8,
+) -> Result<(), NoMemory>
+    ensures { OnOk result ((rest : List Edge) → links.new ++ links_behind earlier.new (edges_from node rest) ≡ links.old ++ links_behind earlier.old (edges_from node (edge.now ∷ rest))) }
+{
+    if edge.upper == node {
+        add_link(alloc, links, earlier, edge)
+    } else {
+        Ok(())
+    }
+}
+
 /// A node's lines or links, in the order of their edges.
 fn links_of(alloc: Global, edges: &[Edge], node: u8) -> Result<Listing<LinkConfig>, NoMemory>
-    ensures { IfOk result (λ links. links ≡ links_behind [] (filter (λ edge. edge.upper == node) edges.now)) }
+    ensures { IfOk result (λ links. links ≡ links_behind [] (edges_from node edges.now)) }
 {
     let mut links = Listing::new(alloc);
     let mut earlier: Listing<u8> = Listing::new(alloc);
     for edge in edges {
-        if edge.upper == node {
-            add_link(alloc, &mut links, &mut earlier, edge)?;
-        }
+        take_edge(alloc, &mut links, &mut earlier, edge, node)?;
     }
     Ok(links)
 }

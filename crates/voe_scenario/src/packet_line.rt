@@ -125,12 +125,18 @@ fn is_param_byte(byte: u8) -> bool
         || byte == b'.'
 }
 
+fn are_param_bytes(name: &[u8]) -> bool
+    ensures { result ≡ list_all is_param_character name.now }
+{
+    name.iter().all(|byte| is_param_byte(*byte))
+}
+
 /// Tells whether the name of a parameter is one.
 fn has_param_name(word: &str) -> bool
     ensures { result ≡ has_name_of_param (param_in word.now) }
 {
     let (name, _) = cut_param(word);
-    !name.is_empty() && name.as_bytes().iter().all(|byte| is_param_byte(*byte))
+    name.len() > 0 && are_param_bytes(name.as_bytes())
 }
 
 /// Tells whether the name of each parameter is one.

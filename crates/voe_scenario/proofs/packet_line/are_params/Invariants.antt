@@ -1,8 +1,7 @@
 -- What the words so far gave, and what is left gives the rest.
-use Rattle.std.proofs.Common.{◌≡◌, ◌+◌, ◌≤◌, ◌++◌, length, map}
+use Rattle.std.proofs.Common.{◌≡◌}
 use Rattle.std.specs.List.{list_all}
-use Rattle.voe_scenario.specs.Grammar.{has_equals, param_in}
-use Rattle.voe_scenario.specs.Refusals.{has_param_name}
+use Rattle.voe_scenario.specs.Grammar.{has_equals}
 use Rattle.voe_scenario.specs.Statements.{words_in}
 use Rattle.voe_scenario.proofs.Turns.{left_of}
 use Rattle.voe_scenario.proofs.packet_line.are_params.Given as goal

@@ -1,8 +1,6 @@
 -- What the words so far gave, and what is left gives the rest.
-use Rattle.std.proofs.Common.{◌≡◌, ◌+◌, ◌≤◌, ◌++◌, length, map}
-use Rattle.std.specs.List.{list_all}
-use Rattle.voe_scenario.specs.Grammar.{has_equals, param_in}
-use Rattle.voe_scenario.specs.Refusals.{has_param_name}
+use Rattle.std.proofs.Common.{◌≡◌, ◌++◌, map}
+use Rattle.voe_scenario.specs.Grammar.{param_in}
 use Rattle.voe_scenario.specs.Statements.{words_in}
 use Rattle.voe_scenario.proofs.Turns.{left_of}
 use Rattle.voe_scenario.proofs.packet_line.read_params.Given as goal
