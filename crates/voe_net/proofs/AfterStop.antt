@@ -71,13 +71,13 @@ module _ {D : Type 0} (disk : Ghosts D) (calls fill : ℕ) (work : Work) (old ne
 
   -- the records that the model adds were run, by all right rules, and others that bring the work's packet alone
   pub is_stopped : ((rules : NodeRules) (packets : List (List ℕ)) → IsAbout work packets → IsRight old.config packets rules
-      → HasRun disk calls fill old.config old.notes (work_added rules (view_of old.config old.notes old.sessions) work) state)
+          → HasRun disk calls fill old.config old.notes (work_added rules (view_of old.config old.notes old.sessions) work) state)
       → (added : List Note) → AllBring work added → HasRun disk calls fill old.config old.notes added state → IsStopped disk calls fill work old new
   is_stopped ran added bring run =
       let view = view_of old.config old.notes old.sessions in
       let seen : show (Some old) ≡ view_of old.config old.notes old.sessions = up_shows old up in
       let right : (packets : List (List ℕ)) (rules : NodeRules) → IsRight (show (Some old)).config packets rules → IsRight old.config packets rules =
-      λ packets rules is. subst (λ (v : net.EndView). IsRight v.config packets rules) seen is in
+          λ packets rules is. subst (λ (v : net.EndView). IsRight v.config packets rules) seen is in
       record {
         exact = λ told rules packets about is.
             let its = ran rules packets about (right packets rules is) in

@@ -62,7 +62,7 @@ module _ {D : Type 0} (disk : Ghosts D) (old state : D) (tells : IsSome (disk.re
         told = λ fill some. (
             let whole = told (disk.crash_image old fill) some in
             let same : disk.crash_image state fill ≡ disk.reads state =
-            some_of (disk.crash_image old fill) (λ whole. disk.crash_image state fill ≡ disk.reads state) whole.0 whole.1 (exact_told fill) in
+                some_of (disk.crash_image old fill) (λ whole. disk.crash_image state fill ≡ disk.reads state) whole.0 whole.1 (exact_told fill) in
             from.told fill (subst (λ (o : Option (List ℕ)). IsSome o) (sym same) tells));
       }
 
@@ -71,19 +71,16 @@ module _ {D : Type 0} (disk : Ghosts D) (node : Kept D) (is : IsKeptNode disk no
   pub leaves : LeavesItself disk node
   leaves =
       let kind = kind_known node is.kind up in
-      let good : IsConfigured disk (end_of node) = is.configured up in (
-        kind.0,
-        kind.1,
-        λ image left. record {
-          config = (end_of node).config;
-          notes = (end_of node).notes;
-          keeps = (sound.up up).images image left;
-          kind_is = kind.2;
-          form = good.form;
-          filters = good.filters;
-          names = good.names;
-        },
-      )
+      let good : IsConfigured disk (end_of node) = is.configured up in
+      (kind.0, kind.1, λ image left. record {
+        config = (end_of node).config;
+        notes = (end_of node).notes;
+        keeps = (sound.up up).images image left;
+        kind_is = kind.2;
+        form = good.form;
+        filters = good.filters;
+        names = good.names;
+      })
 
   -- the end that is loaded again has lost its sessions alone
   pub crash_shown : (new : EndView D) → IsLoadedAgain disk (end_of node).disk new → show (Some new) ≡ crashed (show (Some (end_of node)))
@@ -91,7 +88,7 @@ module _ {D : Type 0} (disk : Ghosts D) (node : Kept D) (is : IsKeptNode disk no
       let end = end_of node in
       let kind = kind_known node is.kind up in
       loaded_shows end.config end.notes (map {B = ℕ} (λ last. 0) end.sessions) loaded.image new (forgotten node kind.0 kind.1 is.kind is.sessions)
-      ((sound.up up).images loaded.image loaded.left) loaded.keeps loaded.is_up loaded.sessions_are
+          ((sound.up up).images loaded.image loaded.left) loaded.keeps loaded.is_up loaded.sessions_are
       ∙ sym (ap crashed (up_shows end up))
 
   pub crash_told : (new : EndView D) → IsLoadedAgain disk (end_of node).disk new → TellsCrash disk (Some (end_of node)) → TellsCrash disk (Some new)

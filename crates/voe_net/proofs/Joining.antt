@@ -40,9 +40,9 @@ place_at (own ∷ names) name zero base distinct found =
     ap (λ (b : Bool). cond b (Some base) (place_of_name names name (base + 1))) (same_name name own same) ∙ ap (λ (n : ℕ). Some n) here
 place_at (own ∷ names) name (suc at) base distinct found =
     let other : name ≡ own → ⊥ = λ same. (
-    let here : Some own ≡ Some name = ap (λ (n : List ℕ). Some n) (sym same) in
-    let bad : zero ≡ suc at = distinct zero (suc at) name here found in
-    cc) in
+        let here : Some own ≡ Some name = ap (λ (n : List ℕ). Some n) (sym same) in
+        let bad : zero ≡ suc at = distinct zero (suc at) name here found in
+        cc) in
     let next : base + 1 + at ≡ base + suc at = omega arith in
     ap (λ (b : Bool). cond b (Some base) (place_of_name names name (base + 1))) (other_name name own other)
     ∙ (place_at names name at (base + 1) (tail_distinct own names distinct) found ∙ ap (λ (n : ℕ). Some n) next)

@@ -44,7 +44,7 @@ link_at (l ∷ links) (suc at) link all found = link_at links at link (both (is_
 few : (link : LinkConfig) → is_link link ≡ true → length link.filters ≤ 16
 few link is =
     let sized : nat_le (length link.filters) 16 ≡ true =
-    (both (is_name link.name) (nat_le (length link.filters) 16) (both (is_name link.name && nat_le (length link.filters) 16) (list_all is_filter link.filters) is).0).1 in
+        (both (is_name link.name) (nat_le (length link.filters) 16) (both (is_name link.name && nat_le (length link.filters) 16) (list_all is_filter link.filters) is).0).1 in
     leb-true (length link.filters) 16 sized
 
 set_reads : (texts : List Text) (set : Filters) (fault : SetFault) → AreRead set texts → length texts ≤ 16 → RefusesSet texts fault → (fault ≡ NoMemory → ⊥) → ⊥

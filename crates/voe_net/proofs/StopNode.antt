@@ -95,12 +95,9 @@ module _ {D : Type 0} (disk : Ghosts D) (moments : Moments disk) (exact_counts :
     pub leaves_after : LeavesItself disk after
     leaves_after =
         let kind = kind_known old is.kind old_up in
-        let known = run _ _ worked.brings.2 in (
-          kind.0,
-          same_kind ∙ (a.same_kind ∙ kind.1),
-          λ image left.
-              keeps_either disk kind.0 image (end_of old) worked.brings.0 kind.2 (is.configured old_up) (known.either image left),
-        )
+        let known = run _ _ worked.brings.2 in
+        (kind.0, same_kind ∙ (a.same_kind ∙ kind.1), λ image left.
+            keeps_either disk kind.0 image (end_of old) worked.brings.0 kind.2 (is.configured old_up) (known.either image left))
 
     -- and the end that is loaded again is what the model says
     pub stopped_after : (new : EndView D) → IsLoadedAgain disk (end_of after).disk new → IsStopped disk calls fill work (end_of old) new

@@ -51,8 +51,8 @@ module _ {D : Type 0} (disk : Ghosts D) (moments : Moments disk) (exact_counts :
   pub answered_ran : {A : Type 0} (outcome : Outcome A) (answer : A) → IsSound disk new → HasAnswered disk old new outcome answer → HasRun disk calls fill old.config old.notes outcome.added new.disk
   answered_ran outcome answer sound h =
       let holds : (image : List ℕ) → disk.may_leave new.disk image → Keeps image old.config (old.notes ++ outcome.added) = λ image left.
-      subst (λ (c : Config). Keeps image c (old.notes ++ outcome.added)) same
-      (subst (λ (l : List Note). Keeps image new.config l) h.notes_are ((sound.up h.still_up).images image left)) in
+        subst (λ (c : Config). Keeps image c (old.notes ++ outcome.added)) same
+        (subst (λ (l : List Note). Keeps image new.config l) h.notes_are ((sound.up h.still_up).images image left)) in
       record {
         either = λ image left. inr (holds image left);
         exact = λ image is. enough_kept outcome.added image h.enough (holds image (exact_counts new.disk fill image is));

@@ -10,6 +10,6 @@ pub returns-clause-told : goal.returns-clause-told
 returns-clause-told g c =
     let d = g.D.Disk in
     let P : Option (Kept g.row.D.Denot) → Option (Kept g.row.D.Denot) → Type 0 =
-    λ before after. OnOk c.crash_node-node.result.1 (TellsCrash d (option_map end_of before) → TellsCrash d (option_map end_of after)) in
+        λ before after. OnOk c.crash_node-node.result.1 (TellsCrash d (option_map end_of before) → TellsCrash d (option_map end_of after)) in
     subst (λ (k : Option (Kept g.row.D.Denot)). P k c.put_back.new.kept) c.in-Some.ensures.value
     (subst (λ (k : Option (Kept g.row.D.Denot)). P (Some c.in-Some.node) k) (sym c.put_back.ensures) c.crash_node-node.ensures.told)
