@@ -1,6 +1,6 @@
 -- A node that was stopped is what the model says.
-use Rattle.std.proofs.Common.{◌≡◌, ◌⊎◌, inl, inr, ℕ, Bool, true, false, List, [], ◌∷◌, ◌++◌, map, Some, None, refl, sym, ◌∙◌, ap, subst}
-use Rattle.std.specs.Prelude.{Option, IsSome}
+use Rattle.std.proofs.Common.{◌≡◌, ◌⊎◌, inl, inr, ℕ, Bool, true, false, List, ◌++◌, map, Some, None, refl, sym, ◌∙◌, ap, subst}
+use Rattle.std.specs.Prelude.{IsSome}
 use Rattle.voe_disk.specs.declared.disk.Disk.{Ghosts}
 use Rattle.net_model.specs.Laws.{IsIn}
 use Rattle.net_model.specs.Rules.{NodeRules}
@@ -9,7 +9,6 @@ use Rattle.net_model.specs.declared.note.Note.{Note}
 use Rattle.net_model.proofs.Members.{IsIn-append}
 use Rattle.node_notes.specs.declared.config.Config.{Config}
 use Rattle.node_book.specs.Ends.{EndView}
-use Rattle.node_book.specs.EndSteps.{KeepsEither}
 use Rattle.node_book.specs.Keeps.{Keeps}
 use Rattle.net_machine.specs.Ends as net
 use Rattle.net_machine.specs.Works.{IsAbout, OnlyBrings, brought, cut_short, work_added}
@@ -58,9 +57,6 @@ module _ {D : Type 0} (disk : Ghosts D) (calls fill : ℕ) (work : Work) (old ne
       shows (after_stop (is_kept calls fill) old.notes added)
       (subst (λ (i : List ℕ). Keeps i old.config (after_stop (is_kept calls fill) old.notes added)) (sym same) (run.exact image.0 image.1))
 
-  old_view : net.EndView
-  old_view = view_of old.config old.notes old.sessions
-
   only_brings : (added : List Note) → AllBring work added → HasRun disk calls fill old.config old.notes added state → OnlyBrings work (net.crashed (show (Some old))) (show (Some new))
   only_brings added bring run =
       let known = either_shows added run in
@@ -71,13 +67,13 @@ module _ {D : Type 0} (disk : Ghosts D) (calls fill : ℕ) (work : Work) (old ne
 
   -- the records that the model adds were run, by all right rules, and others that bring the work's packet alone
   pub is_stopped : ((rules : NodeRules) (packets : List (List ℕ)) → IsAbout work packets → IsRight old.config packets rules
-          → HasRun disk calls fill old.config old.notes (work_added rules (view_of old.config old.notes old.sessions) work) state)
+      → HasRun disk calls fill old.config old.notes (work_added rules (view_of old.config old.notes old.sessions) work) state)
       → (added : List Note) → AllBring work added → HasRun disk calls fill old.config old.notes added state → IsStopped disk calls fill work old new
   is_stopped ran added bring run =
       let view = view_of old.config old.notes old.sessions in
       let seen : show (Some old) ≡ view_of old.config old.notes old.sessions = up_shows old up in
       let right : (packets : List (List ℕ)) (rules : NodeRules) → IsRight (show (Some old)).config packets rules → IsRight old.config packets rules =
-          λ packets rules is. subst (λ (v : net.EndView). IsRight v.config packets rules) seen is in
+      λ packets rules is. subst (λ (v : net.EndView). IsRight v.config packets rules) seen is in
       record {
         exact = λ told rules packets about is.
             let its = ran rules packets about (right packets rules is) in

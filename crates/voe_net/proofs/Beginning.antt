@@ -1,14 +1,14 @@
 -- A node at its beginning.
-use Rattle.std.proofs.Common.{◌≡◌, inl, ℕ, List, [], Some, None, refl, sym, ◌∙◌, ap, subst}
+use Rattle.std.proofs.Common.{◌≡◌, inl, ℕ, List, [], Some, None, ◌∙◌, subst}
 use Rattle.std.specs.Prelude.{Option, IsSome, IfSome}
 use Rattle.voe_disk.specs.declared.disk.Disk.{Ghosts}
 use Rattle.gate_journal.specs.Reading.{IsUnmade}
 use Rattle.node_notes.specs.declared.config.Config.{Config}
 use Rattle.node_book.specs.Ends.{EndView}
-use Rattle.node_book.specs.EndMaking.{IsMade, IsNotMade}
+use Rattle.node_book.specs.EndMaking.{IsNotMade}
 use Rattle.node_book.specs.Making.{IsMakeRefusal}
 use Rattle.node_book.specs.declared.fault.BookFault.{BookFault}
-use Rattle.node_book.specs.declared.fault.BookFault.TheVariants.{DiskFault, Stopped}
+use Rattle.node_book.specs.declared.fault.BookFault.TheVariants.{DiskFault}
 use Rattle.node_book.proofs.Free.{free_is}
 use Rattle.net_machine.specs.declared.fault.EndFault.{EndFault}
 use Rattle.net_machine.specs.declared.fault.EndFault.TheVariants.{Disk}

@@ -16,7 +16,7 @@ use Rattle.node_book.specs.Ends.{EndView, IsSound}
 use Rattle.node_book.specs.Keeps.{Keeps}
 use Rattle.path_filter.specs.Links.{AreReadable}
 use Rattle.net_machine.specs.Ends.{crashed}
-use Rattle.voe_net.specs.Crashes.{IsLoadedAgain, IsLoadedFrom, KeepsNode, LeavesItself, LeavesNode, ReadsNode, no_sessions}
+use Rattle.voe_net.specs.Crashes.{IsLoadedAgain, IsLoadedFrom, LeavesItself, LeavesNode, ReadsNode}
 use Rattle.voe_net.specs.Kept.{HasKind, IsConfigured, IsKeptNode, end_of}
 use Rattle.voe_net.specs.Nodes.{AreDistinct, TellsCrash, names_of, show, show_up}
 use Rattle.voe_net.specs.Worked.{kind_of}
@@ -25,6 +25,10 @@ use Rattle.voe_net.specs.declared.kept.Kept.TheVariants.{Author, Broker, Subscri
 use Rattle.voe_net.proofs.Loading.{some_of, told}
 use Rattle.voe_net.proofs.Readable.{both}
 use Rattle.voe_net.proofs.Views.{forgotten, loaded_shows, up_shows}
+
+-- what holds of a node that was taken out and of the one that was put back holds before and after
+pub moved : (X : Type 0) (P : Option X → Option X → Type 0) (x y : X) (before after : Option X) → Some x ≡ before → after ≡ Some y → P (Some x) (Some y) → P before after
+moved X P x y before after one two holds = subst (λ (o : Option X). P o after) one (subst (λ (o : Option X). P (Some x) o) (sym two) holds)
 
 -- an end that is up is of a kind
 pub kind_known : {D : Type 0} (node : Kept D) → HasKind node → (end_of node).down ≡ None → (kind : NodeKind) × (kind_of node ≡ Some kind) × ((end_of node).config.kind ≡ kind)
@@ -62,7 +66,7 @@ module _ {D : Type 0} (disk : Ghosts D) (old state : D) (tells : IsSome (disk.re
         told = λ fill some. (
             let whole = told (disk.crash_image old fill) some in
             let same : disk.crash_image state fill ≡ disk.reads state =
-                some_of (disk.crash_image old fill) (λ whole. disk.crash_image state fill ≡ disk.reads state) whole.0 whole.1 (exact_told fill) in
+            some_of (disk.crash_image old fill) (λ whole. disk.crash_image state fill ≡ disk.reads state) whole.0 whole.1 (exact_told fill) in
             from.told fill (subst (λ (o : Option (List ℕ)). IsSome o) (sym same) tells));
       }
 
@@ -71,16 +75,19 @@ module _ {D : Type 0} (disk : Ghosts D) (node : Kept D) (is : IsKeptNode disk no
   pub leaves : LeavesItself disk node
   leaves =
       let kind = kind_known node is.kind up in
-      let good : IsConfigured disk (end_of node) = is.configured up in
-      (kind.0, kind.1, λ image left. record {
-        config = (end_of node).config;
-        notes = (end_of node).notes;
-        keeps = (sound.up up).images image left;
-        kind_is = kind.2;
-        form = good.form;
-        filters = good.filters;
-        names = good.names;
-      })
+      let good : IsConfigured disk (end_of node) = is.configured up in (
+        kind.0,
+        kind.1,
+        λ image left. record {
+          config = (end_of node).config;
+          notes = (end_of node).notes;
+          keeps = (sound.up up).images image left;
+          kind_is = kind.2;
+          form = good.form;
+          filters = good.filters;
+          names = good.names;
+        },
+      )
 
   -- the end that is loaded again has lost its sessions alone
   pub crash_shown : (new : EndView D) → IsLoadedAgain disk (end_of node).disk new → show (Some new) ≡ crashed (show (Some (end_of node)))
@@ -88,7 +95,7 @@ module _ {D : Type 0} (disk : Ghosts D) (node : Kept D) (is : IsKeptNode disk no
       let end = end_of node in
       let kind = kind_known node is.kind up in
       loaded_shows end.config end.notes (map {B = ℕ} (λ last. 0) end.sessions) loaded.image new (forgotten node kind.0 kind.1 is.kind is.sessions)
-          ((sound.up up).images loaded.image loaded.left) loaded.keeps loaded.is_up loaded.sessions_are
+      ((sound.up up).images loaded.image loaded.left) loaded.keeps loaded.is_up loaded.sessions_are
       ∙ sym (ap crashed (up_shows end up))
 
   pub crash_told : (new : EndView D) → IsLoadedAgain disk (end_of node).disk new → TellsCrash disk (Some (end_of node)) → TellsCrash disk (Some new)
@@ -100,7 +107,7 @@ unfolding is_config is_name is_end_name
 kept_by disk end state None keeps form = keeps refl
 kept_by disk end state (Some fail) keeps form =
     let named : is_name [] ≡ true =
-        (both (is_name []) (nat_le (length {A = LinkConfig} []) 64) (both (is_name [] && nat_le (length {A = LinkConfig} []) 64) (list_all is_link []) form).0).0 in
+    (both (is_name []) (nat_le (length {A = LinkConfig} []) 64) (both (is_name [] && nat_le (length {A = LinkConfig} []) 64) (list_all is_link []) form).0).0 in
     let bad : is_end_name [] ≡ true = (both (is_utf8 []) (is_end_name []) named).1 in
     absurd (cc)
 

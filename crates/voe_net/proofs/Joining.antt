@@ -1,5 +1,5 @@
 -- The first sessions of a broker's links.
-use Rattle.std.proofs.Common.{◌≡◌, ◌⊎◌, inl, inr, ℕ, ◌+◌, ◌<◌, ◌≤◌, zero, suc, Bool, true, false, List, [], ◌∷◌, length, map, get_or, Some, None, refl, sym, ◌∙◌, ap, subst, arith, add-one}
+use Rattle.std.proofs.Common.{◌≡◌, ◌⊎◌, inl, inr, ℕ, ◌+◌, ◌<◌, ◌≤◌, zero, suc, Bool, true, false, List, [], ◌∷◌, length, map, Some, None, refl, sym, ◌∙◌, ap, subst, arith}
 use Rattle.std.specs.Option.{option_map}
 use Rattle.std.specs.Prelude.{Option, cond, slice_get, slice_set, unwrap_or}
 use Rattle.std.specs.Str.{bytes_eq}
@@ -16,7 +16,7 @@ use Rattle.node_notes.specs.declared.config.Config.{Config}
 use Rattle.node_book.specs.Ends.{EndView}
 use Rattle.node_book.specs.EndSteps.{Fate, Happens, answered, is_down, lacked_memory}
 use Rattle.voe_net.specs.Nodes.{AreDistinct, names_of}
-use Rattle.voe_net.specs.Sessions.{IsBegunBelow, IsJoined}
+use Rattle.voe_net.specs.Sessions.{IsJoined}
 
 same_name : (name own : List ℕ) → name ≡ own → bytes_eq name own ≡ true
 same_name name own e = (bytes_eq-Decides name own).1 e
@@ -40,9 +40,9 @@ place_at (own ∷ names) name zero base distinct found =
     ap (λ (b : Bool). cond b (Some base) (place_of_name names name (base + 1))) (same_name name own same) ∙ ap (λ (n : ℕ). Some n) here
 place_at (own ∷ names) name (suc at) base distinct found =
     let other : name ≡ own → ⊥ = λ same. (
-        let here : Some own ≡ Some name = ap (λ (n : List ℕ). Some n) (sym same) in
-        let bad : zero ≡ suc at = distinct zero (suc at) name here found in
-        cc) in
+    let here : Some own ≡ Some name = ap (λ (n : List ℕ). Some n) (sym same) in
+    let bad : zero ≡ suc at = distinct zero (suc at) name here found in
+    cc) in
     let next : base + 1 + at ≡ base + suc at = omega arith in
     ap (λ (b : Bool). cond b (Some base) (place_of_name names name (base + 1))) (other_name name own other)
     ∙ (place_at names name at (base + 1) (tail_distinct own names distinct) found ∙ ap (λ (n : ℕ). Some n) next)
@@ -54,6 +54,12 @@ joins_at links notes sessions at link distinct found =
     let its : slice_get (names_of links) at ≡ Some link.name = slice_get-map (λ (k : LinkConfig). k.name) links at ∙ ap (option_map (λ (k : LinkConfig). k.name)) found in
     let here : 0 + at ≡ at = omega arith in
     ap (λ (o : Option ℕ). (broker_joins notes sessions o).sessions) (place_at (names_of links) link.name at 0 distinct its ∙ ap (λ (n : ℕ). Some n) here)
+
+-- the links below this number are in their first session, and no session of the others has begun
+pub record IsBegunBelow {D : Type 0} (end : EndView D) (count : ℕ) : Type 0 where
+  pub each : length end.sessions ≡ length end.config.links
+  pub first : (link : ℕ) → link < count → slice_get end.sessions link ≡ Some 1
+  pub rest : (link : ℕ) → count ≤ link → link < length end.config.links → slice_get end.sessions link ≡ Some 0
 
 get_set_same : (xs : List ℕ) (at v : ℕ) → at < length xs → slice_get (slice_set xs at v) at ≡ Some v
 get_set_same xs at v low =

@@ -1,25 +1,21 @@
 -- What is loaded again is what was kept.
-use Rattle.std.proofs.Common.{◌≡◌, ◌⊎◌, inl, inr, ℕ, true, List, [], length, map, Some, None, refl, sym, ◌∙◌, ap, subst}
+use Rattle.std.proofs.Common.{◌≡◌, ◌⊎◌, inl, inr, ℕ, List, Some, None, refl, ◌∙◌, ap, subst}
 use Rattle.std.specs.Prelude.{Option, IsSome, IfSome}
 use Rattle.voe_disk.specs.declared.disk.Disk.{Ghosts}
-use Rattle.gate_journal.specs.Device.{IsSameDisk}
 use Rattle.voe_values.specs.declared.kind.NodeKind.{NodeKind}
 use Rattle.net_model.specs.declared.note.Note.{Note}
 use Rattle.node_notes.specs.declared.config.Config.{Config}
-use Rattle.node_notes.specs.declared.config.LinkConfig.{LinkConfig}
 use Rattle.node_book.specs.Ends.{EndView}
-use Rattle.node_book.specs.EndMaking.{IsEndRefusal, IsLoaded, IsNotLoaded, KeepsSuch}
+use Rattle.node_book.specs.EndMaking.{IsEndRefusal, IsLoaded, IsNotLoaded}
 use Rattle.node_book.specs.Fault.{ComesFromDisk}
 use Rattle.node_book.specs.Keeps.{Keeps}
-use Rattle.node_book.specs.Reading.{IsRefusal}
 use Rattle.node_book.specs.declared.fault.BookFault.{BookFault}
 use Rattle.node_book.specs.declared.fault.BookFault.TheVariants.{Unmade, NotJournal, Damaged, Full, AlreadyMade, DiskFault, Stopped, NoMemory, BadNote}
 use Rattle.node_book.proofs.SingleBook.{keeps_or_refused, one_book}
-use Rattle.path_filter.specs.Links.{AreReadable, HasRefused}
+use Rattle.path_filter.specs.Links.{HasRefused}
 use Rattle.voe_net.specs.Crashes.{IsLoadedFrom, KeepsNode, ReadsNode, no_sessions}
 use Rattle.voe_net.specs.Kept.{IsConfigured}
 use Rattle.voe_net.specs.Lost.{IsLost}
-use Rattle.voe_net.specs.Nodes.{AreDistinct, names_of}
 use Rattle.voe_net.proofs.Readable.{none_refused}
 
 -- what an end of this kind refuses

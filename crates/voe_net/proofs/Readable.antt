@@ -1,6 +1,6 @@
 -- Filters that read are not refused.
-use Rattle.std.proofs.Common.{◌≡◌, ℕ, ◌<◌, ◌≤◌, zero, suc, Bool, true, false, List, [], ◌∷◌, length, Some, None, refl, sym, subst, arith}
-use Rattle.std.specs.Prelude.{Option, ◌&&◌, nat_le, slice_get}
+use Rattle.std.proofs.Common.{◌≡◌, ℕ, ◌≤◌, zero, suc, Bool, true, false, List, [], ◌∷◌, length, Some, None, refl, subst, arith}
+use Rattle.std.specs.Prelude.{◌&&◌, nat_le, slice_get}
 use Rattle.std.specs.List.{list_all}
 use Rattle.std.proofs.lemmas.Bool.{leb-true}
 use Rattle.xml_lexer.specs.Characters.{Text}
@@ -44,7 +44,7 @@ link_at (l ∷ links) (suc at) link all found = link_at links at link (both (is_
 few : (link : LinkConfig) → is_link link ≡ true → length link.filters ≤ 16
 few link is =
     let sized : nat_le (length link.filters) 16 ≡ true =
-        (both (is_name link.name) (nat_le (length link.filters) 16) (both (is_name link.name && nat_le (length link.filters) 16) (list_all is_filter link.filters) is).0).1 in
+    (both (is_name link.name) (nat_le (length link.filters) 16) (both (is_name link.name && nat_le (length link.filters) 16) (list_all is_filter link.filters) is).0).1 in
     leb-true (length link.filters) 16 sized
 
 set_reads : (texts : List Text) (set : Filters) (fault : SetFault) → AreRead set texts → length texts ≤ 16 → RefusesSet texts fault → (fault ≡ NoMemory → ⊥) → ⊥

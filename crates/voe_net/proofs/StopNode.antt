@@ -1,5 +1,5 @@
 -- A node from before a stop until behind the crash.
-use Rattle.std.proofs.Common.{◌≡◌, ◌⊎◌, inl, inr, ℕ, ◌+◌, ◌≤◌, Bool, true, false, List, [], ◌++◌, map, Some, None, Result, Ok, Err, refl, sym, ◌∙◌, ap, subst, arith}
+use Rattle.std.proofs.Common.{◌≡◌, ◌⊎◌, inl, inr, ℕ, ◌+◌, ◌≤◌, true, false, List, ◌++◌, Some, None, Result, Ok, Err, refl, sym, ◌∙◌, ap, subst, arith}
 use Rattle.std.specs.Prelude.{Option, IsSome, IfErr, min, ◌^◌, ◌-◌}
 use Rattle.voe_disk.specs.Disk.{Arming}
 use Rattle.voe_disk.specs.Runs.{Moments}
@@ -12,7 +12,6 @@ use Rattle.net_model.specs.declared.note.Note.{Note}
 use Rattle.node_notes.specs.declared.config.Config.{Config}
 use Rattle.node_book.specs.Ends.{EndView, IsSound}
 use Rattle.node_book.specs.EndSteps.{Happens, KeepsEither}
-use Rattle.node_book.specs.Keeps.{Keeps}
 use Rattle.net_machine.specs.Counts.{HasCause, Rose}
 use Rattle.net_machine.specs.Works.{IsAbout, work_added}
 use Rattle.net_machine.specs.Ends as net
@@ -71,10 +70,10 @@ module _ {D : Type 0} (disk : Ghosts D) (moments : Moments disk) (exact_counts :
     armed_up = still_up armed after result (end_of armed).down refl was_down whole
 
     old_up : (end_of old).down ≡ None
-    old_up = sym a.down_is ∙ still_up armed after result (end_of armed).down refl was_down whole
+    old_up = sym a.down_is ∙ armed_up
 
     worked : HasWorked disk work (end_of armed) (end_of after) result
-    worked = was_up (still_up armed after result (end_of armed).down refl was_down whole)
+    worked = was_up armed_up
 
     run : {A : Type 0} (outcome : Outcome A) (answer : A) → Happens disk (end_of armed) (end_of after) outcome answer (fate_of (disk.faults (end_of after).disk) result)
         → HasRun disk calls fill (end_of old).config (end_of old).notes outcome.added (end_of after).disk
@@ -95,9 +94,12 @@ module _ {D : Type 0} (disk : Ghosts D) (moments : Moments disk) (exact_counts :
     pub leaves_after : LeavesItself disk after
     leaves_after =
         let kind = kind_known old is.kind old_up in
-        let known = run _ _ worked.brings.2 in
-        (kind.0, same_kind ∙ (a.same_kind ∙ kind.1), λ image left.
-            keeps_either disk kind.0 image (end_of old) worked.brings.0 kind.2 (is.configured old_up) (known.either image left))
+        let known = run _ _ worked.brings.2 in (
+          kind.0,
+          same_kind ∙ (a.same_kind ∙ kind.1),
+          λ image left.
+              keeps_either disk kind.0 image (end_of old) worked.brings.0 kind.2 (is.configured old_up) (known.either image left),
+        )
 
     -- and the end that is loaded again is what the model says
     pub stopped_after : (new : EndView D) → IsLoadedAgain disk (end_of after).disk new → IsStopped disk calls fill work (end_of old) new

@@ -1,10 +1,10 @@
 -- What a stop leaves of a node.
-use Rattle.std.proofs.Common.{◌≡◌, ◌⊎◌, inl, inr, ℕ, ◌≤◌, ◌<◌, zero, suc, Bool, true, false, List, [], ◌∷◌, ◌++◌, length, map, Some, None, refl, sym, ◌∙◌, ap, subst, arith}
-use Rattle.std.specs.Prelude.{Option, IsSome, IfSome, if◌then◌else◌, cond, nat_le, nat_lt, ◌==◌, ◌&&◌, ◌||◌}
-use Rattle.std.proofs.lemmas.Bool.{le-leb, lt-leb, leb-true}
+use Rattle.std.proofs.Common.{◌≡◌, inr, ℕ, ◌≤◌, Bool, true, false, List, [], ◌∷◌, ◌++◌, Some, refl, sym, ◌∙◌, ap, subst}
+use Rattle.std.specs.Prelude.{IfSome, if◌then◌else◌, cond, nat_le, ◌==◌, ◌&&◌, ◌||◌}
+use Rattle.std.proofs.lemmas.Bool.{le-leb}
 use Rattle.std.proofs.lemmas.List.{append-nil}
 use Rattle.voe_disk.specs.Disk.{Arming}
-use Rattle.voe_disk.specs.Runs.{LeavesOnly, Moments, at_last}
+use Rattle.voe_disk.specs.Runs.{Moments, at_last}
 use Rattle.voe_disk.specs.declared.disk.Disk.{Ghosts}
 use Rattle.gate_journal.specs.Format as journal
 use Rattle.net_model.specs.Runs as model
@@ -51,8 +51,8 @@ module _ {D : Type 0} (disk : Ghosts D) (moments : Moments disk) (exact_counts :
   pub answered_ran : {A : Type 0} (outcome : Outcome A) (answer : A) → IsSound disk new → HasAnswered disk old new outcome answer → HasRun disk calls fill old.config old.notes outcome.added new.disk
   answered_ran outcome answer sound h =
       let holds : (image : List ℕ) → disk.may_leave new.disk image → Keeps image old.config (old.notes ++ outcome.added) = λ image left.
-        subst (λ (c : Config). Keeps image c (old.notes ++ outcome.added)) same
-        (subst (λ (l : List Note). Keeps image new.config l) h.notes_are ((sound.up h.still_up).images image left)) in
+      subst (λ (c : Config). Keeps image c (old.notes ++ outcome.added)) same
+      (subst (λ (l : List Note). Keeps image new.config l) h.notes_are ((sound.up h.still_up).images image left)) in
       record {
         either = λ image left. inr (holds image left);
         exact = λ image is. enough_kept outcome.added image h.enough (holds image (exact_counts new.disk fill image is));

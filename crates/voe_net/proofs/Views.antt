@@ -1,5 +1,5 @@
 -- What the network sees of an end before and after a crash.
-use Rattle.std.proofs.Common.{◌≡◌, ℕ, suc, List, [], ◌∷◌, length, map, Some, None, refl, sym, ◌∙◌, ap, subst}
+use Rattle.std.proofs.Common.{◌≡◌, ℕ, List, [], ◌∷◌, length, map, Some, None, refl, sym, ◌∙◌, ap}
 use Rattle.std.specs.Prelude.{Option}
 use Rattle.voe_disk.specs.declared.fail.DiskFail.{DiskFail}
 use Rattle.voe_values.specs.declared.kind.NodeKind.{NodeKind}
@@ -52,4 +52,4 @@ loaded_shows config notes sessions image new begun keeps has up none =
     let same = one_book image new.config config new.notes notes has keeps in
     up_shows new up
     ∙ view_is new.config config new.notes notes new.sessions sessions same.0 same.1
-      (none ∙ (ap (λ (c : Config). no_sessions c.kind c.links) same.0 ∙ sym begun))
+    (none ∙ (ap (λ (c : Config). no_sessions c.kind c.links) same.0 ∙ sym begun))

@@ -1,7 +1,6 @@
 -- What a crash leaves of a node.
-use Rattle.std.specs.Prelude.{◌≡◌, ℕ, true, List, [], map, Option, Some, None, IsSome}
+use Rattle.std.specs.Prelude.{◌≡◌, ℕ, true, List, [], map, Some, None, IsSome}
 use Rattle.voe_disk.specs.declared.disk.Disk.{Ghosts}
-use Rattle.voe_disk.specs.declared.fail.DiskFail.{DiskFail}
 use Rattle.voe_values.specs.declared.kind.NodeKind.{NodeKind}
 use Rattle.voe_values.specs.declared.kind.NodeKind.TheVariants.{Author, Broker, Subscriber}
 use Rattle.net_model.specs.declared.note.Note.{Note}

@@ -1,6 +1,6 @@
 //! The crash of a node, and its loading from what its disk then keeps.
 
-ghost use Rattle.std.specs.Prelude.{◌≡◌, OnOk, None, Some};
+ghost use Rattle.std.specs.Prelude.{◌≡◌, ◌↔◌, OnOk, None, Some};
 ghost use Rattle.std.specs.Option.{option_map};
 ghost use Rattle.gate_journal.specs.Journal.{EachFile};
 ghost use Rattle.node_book.specs.Keeps.{Keeps};
@@ -179,7 +179,7 @@ fn load_subscriber<D: CrashDisk>(alloc: Global, disk: D) -> (Kept<D>, Result<(),
 /// Why an end was neither made nor loaded, as the network is told.
 pub fn why_lost(fault: BookFault) -> EndFault
     requires { IsLost fault }
-    ensures disk { result ≡ EndFault.Disk → fault ≡ DiskFault }
+    ensures { (result ≡ EndFault.Disk) ↔ (fault ≡ DiskFault) }
 {
     match fault {
         BookFault::DiskFault => EndFault::Disk,

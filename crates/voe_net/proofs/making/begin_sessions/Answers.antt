@@ -1,8 +1,7 @@
 use Rattle.std.proofs.Common.{◌≡◌, ℕ, ◌<◌, length, ap, subst, arith, ◌∙◌}
 use Rattle.node_notes.specs.declared.config.Config.{Config}
 use Rattle.node_book.specs.Book.{BookView}
-use Rattle.voe_net.specs.Sessions.{IsBegunBelow}
-use Rattle.voe_net.proofs.Joining.{all_begun, begun_more, joined_itself, joined_twice, none_begun}
+use Rattle.voe_net.proofs.Joining.{IsBegunBelow, all_begun, begun_more, joined_itself, joined_twice, none_begun}
 use Rattle.voe_net.proofs.making.begin_sessions.Goals as goal
 
 pub loop-link-init : goal.loop-link-init
@@ -13,7 +12,7 @@ loop-link-preserved g c =
     let known = c.loop-link.invariant in
     let joined = c.begin_session.ensures.same in
     let count : c.len-link-end.result ≡ length c.args.end.now.config.links =
-        c.len-link-end.ensures ∙ ap (λ (k : Config). length k.links) (c.config.ensures ∙ ap (λ (b : BookView g.row.D.Denot). b.config) c.book.ensures) in
+    c.len-link-end.ensures ∙ ap (λ (k : Config). length k.links) (c.config.ensures ∙ ap (λ (b : BookView g.row.D.Denot). b.config) c.book.ensures) in
     let same : length c.loop-link.end.config.links ≡ length c.args.end.now.config.links = ap (λ (k : Config). length k.links) known.same.config_is in
     let low : c.loop-link.link < length c.loop-link.end.config.links = omega (arith, c.loop-link-test.true, count, same) in
     record {
@@ -25,7 +24,7 @@ pub returns-clause-begun : goal.returns-clause-begun
 returns-clause-begun g c =
     let known = c.loop-link.invariant in
     let count : c.len-link-end.result ≡ length c.args.end.now.config.links =
-        c.len-link-end.ensures ∙ ap (λ (k : Config). length k.links) (c.config.ensures ∙ ap (λ (b : BookView g.row.D.Denot). b.config) c.book.ensures) in
+    c.len-link-end.ensures ∙ ap (λ (k : Config). length k.links) (c.config.ensures ∙ ap (λ (b : BookView g.row.D.Denot). b.config) c.book.ensures) in
     let here : c.loop-link.link ≡ length c.args.end.now.config.links = omega (arith, c.loop-link-test.false, c.loop-link.auto.link-end, count) in
     all_begun c.loop-link.end c.args.end.now.config.links (ap (λ (k : Config). k.links) known.same.config_is)
     (subst (λ (n : ℕ). IsBegunBelow c.loop-link.end n) here known.begun)

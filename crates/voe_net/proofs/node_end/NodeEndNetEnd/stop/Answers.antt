@@ -14,5 +14,5 @@ returns-clause-either g c =
     let new = option_map end_of c.stop.new.kept in
     let work = c.args.work in
     let P : Option (EndView _) → Type 0 = λ v. OnOk c.stop.result ((rules : NodeRules) (packets : List (List ℕ)) → IsAbout work packets → IsRight (show v).config packets rules
-        → (outlives : Bool) × (show new ≡ cut_short outlives rules (show v) work)) in
+    → (outlives : Bool) × (show new ≡ cut_short outlives rules (show v) work)) in
     subst P c.self.view_is c.stop.ensures.either
