@@ -1,10 +1,10 @@
 //! The work of an author.
 
-ghost use Rattle.std.specs.Prelude.{◌≡◌, None};
+ghost use Rattle.std.specs.Prelude.{◌≡◌, ◌<◌, ℕ, None, length};
 ghost use Rattle.voe_values.specs.declared.kind.NodeKind.TheVariants.{Author};
 ghost use Rattle.node_book.specs.Ends.{IsSound};
 ghost use Rattle.net_machine.specs.Ends.{IsPacket};
-ghost use Rattle.net_machine.specs.Works.{IsFit, IsOver};
+ghost use Rattle.net_machine.specs.Works.{IsFit};
 ghost use Rattle.net_machine.specs.declared.work.Work.TheVariants.{Write, Hear};
 ghost use Rattle.voe_net.specs.Nodes.{show_up};
 ghost use Rattle.voe_net.specs.Told.{author_told};
@@ -30,11 +30,7 @@ pub fn author_works<D: CrashDisk>(alloc: Global, end: &mut AuthorEnd<D>, work: W
     match work {
         Work::Write { packet } => write(end, packet),
         Work::Take { .. } => unreachable!(),
-        Work::Hear {
-            number,
-            session,
-            answer,
-        } => hear(alloc, end, number, session, answer),
+        Work::Hear { number, answer, .. } => hear(alloc, end, number, answer),
     }
 }
 
@@ -47,18 +43,12 @@ fn write<D: CrashDisk>(end: &mut AuthorEnd<D>, packet: Bytes) -> Worked
     told(end.step(AuthorEvent::Write { packet }))
 }
 
-fn hear<D: CrashDisk>(
-    alloc: Global,
-    end: &mut AuthorEnd<D>,
-    line: u16,
-    session: u64,
-    answer: Verdict,
-) -> Worked
+fn hear<D: CrashDisk>(alloc: Global, end: &mut AuthorEnd<D>, line: u16, answer: Verdict) -> Worked
     requires up { end.old.down ≡ None }
     requires kind { end.old.config.kind ≡ Author }
     requires sound { IsSound D.Disk end.old }
-    requires over { IsOver (show_up end.old None) line session }
-    ensures { HasWorked D.Disk (Hear line session answer) end.old end.new result }
+    requires line { line < length end.old.config.links }
+    ensures { (session : ℕ) → HasWorked D.Disk (Hear line session answer) end.old end.new result }
 {
     match hear_answer(alloc, &answer) {
         Err(_) => Worked::NoMemory,

@@ -17,18 +17,17 @@ use Rattle.voe_net.proofs.Told.{has_worked}
 use Rattle.voe_net.proofs.author_work.hear.Goals as goal
 
 pub returns-in-Err : goal.returns-in-Err
-returns-in-Err g c =
+returns-in-Err g c = λ session.
     let d = g.D.Disk in
     let end = c.args.end.now in
     let still : IsStill d = record { since_itself = g.met.D.Disk.since_itself; one_moment = g.met.D.Disk.one_moment; reserved_itself = g.met.D.Disk.reserved_itself } in
-    lacked d end (Hear c.args.line c.args.session c.args.answer) (ready d still end c.requires.up c.requires.sound)
+    lacked d end (Hear c.args.line session c.args.answer) (ready d still end c.requires.up c.requires.sound)
 
 pub returns-in-Ok-None : goal.returns-in-Ok-None
-returns-in-Ok-None g c =
+returns-in-Ok-None g c = λ session.
     let d = g.D.Disk in
     let end = c.args.end.now in
     let line = c.args.line in
-    let session = c.args.session in
     let said = c.args.answer in
     let still : IsStill d = record { since_itself = g.met.D.Disk.since_itself; one_moment = g.met.D.Disk.one_moment; reserved_itself = g.met.D.Disk.reserved_itself } in
     let none : heard_of said ≡ None = sym c.in-Ok-None.ensures ∙ c.in-Ok-None.field-0-is in
@@ -37,12 +36,11 @@ returns-in-Ok-None g c =
     (ap (λ (k : NodeKind). is_step k (Hear line session said)) c.requires.kind ∙ author_no_step line session said none)
 
 pub returns : goal.returns
-returns g c =
+returns g c = λ session.
     let d = g.D.Disk in
     let old = c.args.end.now in
     let new = c.step.new.self in
     let line = c.args.line in
-    let session = c.args.session in
     let answer = c.args.answer in
     let heard = c.in-Ok-Some.heard in
     let step = c.step.result in
