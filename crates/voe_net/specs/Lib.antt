@@ -1,14 +1,21 @@
 -- A network over disks.
 pub mod Asked
+pub mod Begun
 pub mod Crashes
+pub mod Each
+pub mod Faults
 pub mod Heard
 pub mod Kept
+pub mod Looking
 pub mod Lost
+pub mod Networks
 pub mod Nodes
 pub mod Performed
 pub mod Right
 pub mod Sessions
+pub mod Starting
 pub mod Stopping
+pub mod TakenBack
 pub mod Told
 pub mod Up
 pub mod Worked
