@@ -11,6 +11,7 @@ pub mod Once
 pub mod Same
 pub mod NodeNames
 pub mod Linked
+pub mod Examples
 pub mod Configured
 pub mod Filled
 pub mod ConfigKept
