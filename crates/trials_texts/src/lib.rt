@@ -5,3 +5,5 @@
 
 #[cfg(test)]
 mod configurations;
+#[cfg(test)]
+mod scenarios;
