@@ -69,7 +69,7 @@ section-length (p ∷ ps) =
     let whole = five (codes "<What>") (concat (map param_text (p ∷ ps))) (codes "</") (codes "What") (codes ">") in
     let more = params-length (p ∷ ps) in omega arith
 
-text-length : (d : Draft) → d.citations ≡ [] → length (packet_text d) ≤ 131 + 6 * length d.identifier + 25 * length d.params + 6 * params_size d.params
+pub text-length : (d : Draft) → d.citations ≡ [] → length (packet_text d) ≤ 131 + 6 * length d.identifier + 25 * length d.params + 6 * params_size d.params
 text-length d none =
     let head = five (codes "<voe:VOEvent xmlns:voe=\"http://www.ivoa.net/xml/VOEvent/v2.0\" ivorn=\"") (written_value d.identifier) (codes "\" role=\"") (role_word d.role) (codes "\" version=\"2.0\">") in
     let whole = five (codes "<voe:VOEvent xmlns:voe=\"http://www.ivoa.net/xml/VOEvent/v2.0\" ivorn=\"" ++ written_value d.identifier ++ codes "\" role=\"" ++ role_word d.role ++ codes "\" version=\"2.0\">")
