@@ -43,9 +43,11 @@ named d are =
 
 pub drafted_good : DraftLaws → (packet : List ℕ) → IsDrafted packet → (judged : Judged) × IsJudged packet judged
 drafted_good laws packet is =
-    let d = is.draft in
-    (Good d.identifier, subst (λ p. IsJudged p (Good d.identifier)) (sym is.written)
-        (draft_root d, laws.spells d is.identifiers is.texts is.fits, (valid_root (draft_root d) (laws.valid d is.identifiers), named d is.identifiers)))
+    let d = is.draft in (
+      Good d.identifier,
+      subst (λ p. IsJudged p (Good d.identifier)) (sym is.written)
+          (draft_root d, laws.spells d is.identifiers is.texts is.fits, (valid_root (draft_root d) (laws.valid d is.identifiers), named d is.identifiers)),
+    )
 
 -- each packet has a judgement
 pub all_judged : DraftLaws → (packets : List (List ℕ)) → All IsDrafted packets → (packet : List ℕ) → IsIn packet packets → (judged : Judged) × IsJudged packet judged

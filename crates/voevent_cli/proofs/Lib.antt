@@ -2,7 +2,8 @@
 pub mod Places
 pub mod SafeRuns
 pub mod Wants
-pub mod Lent
 pub mod Ran
 pub mod Judged
+pub mod Choices
+pub mod Rightness
 pub mod Once

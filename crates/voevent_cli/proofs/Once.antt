@@ -402,9 +402,9 @@ runs_once : {T : Type 0} (disk : Ghosts T) (s t : Scenario) → IsAlike s t → 
     → Runs disk s a old one → Runs disk t b old two → a ≡ b
 runs_once disk s t alike old one two a b tells (inl run) (inl again) =
     outcome_of a b (run.status ∙ sym again.status) (not_apart a.output b.output (λ apart. run.right (λ rules right.
-        let first = (run.exact tells rules right).reports in
-        let second = (again.exact tells rules (right_alike rules s t alike right)).reports in
-        apart (ap (λ (o : Outcome). o.output) (first ∙ same_reported rules s t alike ∙ sym second)))))
+    let first = (run.exact tells rules right).reports in
+    let second = (again.exact tells rules (right_alike rules s t alike right)).reports in
+    apart (ap (λ (o : Outcome). o.output) (first ∙ same_reported rules s t alike ∙ sym second)))))
 runs_once disk s t alike old one two a b tells (inl run) (inr again) = absurd (not_made disk old again.node run.blank again.first)
 runs_once disk s t alike old one two a b tells (inr run) (inl again) = absurd (not_made disk old run.node again.blank run.first)
 runs_once disk s t alike old one two a b tells (inr run) (inr again) =

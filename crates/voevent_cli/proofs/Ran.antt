@@ -121,7 +121,7 @@ failed_at disk old new n count below rose =
       rose = rose (disk.faults was.0) (disk.faults now.0) (count_at disk.faults old n was.0 was.1) (count_at disk.faults new n now.0 now.1);
     }
 
-pub hindered_run : {T : Type 0} (disk : Ghosts T) (old new : List T) (before now : List ℕ) (hindrance : Hindrance) → length new ≡ length old → before ≡ map disk.faults old → map disk.faults new ≡ now
+hindered_run : {T : Type 0} (disk : Ghosts T) (old new : List T) (before now : List ℕ) (hindrance : Hindrance) → length new ≡ length old → before ≡ map disk.faults old → map disk.faults new ≡ now
     → IsHinderedStep before now hindrance → IsHinderedRun disk old new hindrance
 hindered_run disk old new before now ReadFault count was is step = step
 hindered_run disk old new before now DiskFault count was is (n, below, rose) =
@@ -129,15 +129,27 @@ hindered_run disk old new before now DiskFault count was is (n, below, rose) =
     (n, failed_at disk old new n count (omega arith) (subst (λ (l : List ℕ). RoseAt n (map disk.faults old) l) (sym is) (subst (λ (l : List ℕ). RoseAt n l now) was rose)))
 hindered_run disk old new before now NoMemory count was is step = tt
 
+pub hindered_where : {T : Type 0} (disk : Ghosts T) (old new : List T) (before now : List ℕ) (result : Result Outcome Hindrance) → length new ≡ length old → before ≡ map disk.faults old
+    → map disk.faults new ≡ now → IfErr result (λ hindrance. IsHinderedStep before now hindrance) → IfErr result (λ hindrance. IsHinderedRun disk old new hindrance)
+hindered_where disk old new before now (Ok outcome) count was is step = tt
+hindered_where disk old new before now (Err hindrance) count was is step = hindered_run disk old new before now hindrance count was is step
+
 -- why the network was not made
-pub hindered_start : {T : Type 0} (disk : Ghosts T) (old new : List T) (fault : NetFault) (hindrance : Hindrance) → Explains disk old new fault → Hinders fault hindrance → IsHinderedRun disk old new hindrance
+hindered_start : {T : Type 0} (disk : Ghosts T) (old new : List T) (fault : NetFault) (hindrance : Hindrance) → Explains disk old new fault → Hinders fault hindrance → IsHinderedRun disk old new hindrance
 hindered_start disk old new fault ReadFault explains hinders = hinders
 hindered_start disk old new fault DiskFault explains (n, is) = (n, subst (Explains disk old new) is explains)
 hindered_start disk old new fault NoMemory explains hinders = tt
 
-pub refused_start : {T : Type 0} (disk : Ghosts T) (scenario : Scenario) (old new : List T) (fault : NetFault) (node : ℕ) (outcome : Outcome) → Explains disk old new fault
-    → fault ≡ net.AlreadyMade node → outcome ≡ refused (MadeAt node) → Runs disk scenario outcome old new
-refused_start disk scenario old new fault node outcome explains is shown =
+pub not_begun : {T : Type 0} (disk : Ghosts T) (old new : List T) (fault : NetFault) (result : Result Outcome Hindrance) → Explains disk old new fault
+    → IfErr result (λ hindrance. Hinders fault hindrance) → IfErr result (λ hindrance. IsHinderedRun disk old new hindrance)
+not_begun disk old new fault (Ok outcome) explains hinders = tt
+not_begun disk old new fault (Err hindrance) explains hinders = hindered_start disk old new fault hindrance explains hinders
+
+-- the first disk on which something stands was named
+pub refused_where : {T : Type 0} (disk : Ghosts T) (scenario : Scenario) (old new : List T) (fault : NetFault) (result : Result Outcome Hindrance) → Explains disk old new fault
+    → IfOk result (λ outcome. (node : ℕ) × (fault ≡ net.AlreadyMade node) × (outcome ≡ refused (MadeAt node))) → IfOk result (λ outcome. Runs disk scenario outcome old new)
+refused_where disk scenario old new fault (Err hindrance) explains shown = tt
+refused_where disk scenario old new fault (Ok outcome) explains (node, is, shown) =
     let made = subst (Explains disk old new) is explains in
     inr (record { node = node; first = made.0; shown = shown; same = made.1 })
 

@@ -100,9 +100,10 @@ read_above Refuses with_line before text above read reads =
 
 refused_above : {S : Type 0} (Refuses : S → List ℕ → Option ℕ → Type 0) (with_line : S → List ℕ → S) (before : S) (text : List ℕ) → 33554432 < length text
     → TextRead Refuses with_line before text (Err above_limit)
-refused_above Refuses with_line before text above =
+refused_above {S = S} Refuses with_line before text above =
     let is_above = lt-ltb 33554432 (length text) above in
-    subst (λ b. MatchBool b (Err above_limit ≡ Err above_limit) (LinesRead Refuses with_line before 1 (lines_of text) (Err above_limit))) (sym is_above) refl
+    let whole : Result S BadText = Err above_limit in
+    subst (λ b. MatchBool b (whole ≡ whole) (LinesRead Refuses with_line before 1 (lines_of text) whole)) (sym is_above) refl
 
 -- ---- configurations
 

@@ -1,5 +1,5 @@
 -- What was read, made and done to the disks before anything is written.
-use Rattle.std.specs.Prelude.{◌≡◌, ℕ, ◌<◌, ◌≤◌, List, length, Bool, true, false, Result, Ok, Err}
+use Rattle.std.specs.Prelude.{◌≡◌, ℕ, ◌<◌, ◌≤◌, List, length, Bool, true, false, Result, Ok, Err, Some}
 use Rattle.std.specs.declared.option.Option.{Option}
 use Rattle.voe_disk.specs.declared.disk.Disk.{Ghosts}
 use Rattle.voe_outside.specs.Causes.{Rose}

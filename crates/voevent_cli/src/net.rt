@@ -25,6 +25,7 @@ use net_model::Event;
 use std::alloc::Global;
 use voe_disk::{CrashDisk, Disk, Rack};
 use voe_net::{Disks, NetFault, Network};
+use voe_packet::laws::drafts_read_back;
 use voe_scenario::{Scenario, ScenarioFault, read_scenario};
 
 /// What is answered where no network was made over the disks.
@@ -40,7 +41,7 @@ fn refuse(alloc: Global, fault: NetFault) -> Result<Outcome, Hindrance>
 }
 
 /// Steps a network of so many nodes through all events, and makes its report.
-fn report_of_run<D: CrashDisk>(
+fn report_of_run<D: CrashDisk + Drop>(
     network: &mut Network<'_, D>,
     events: &[Event],
     nodes: usize,
@@ -68,7 +69,7 @@ fn report_of_run<D: CrashDisk>(
 }
 
 /// Runs a scenario over disks, one for each node, which are handed back in their order.
-fn run_on<D: CrashDisk>(
+fn run_on<D: CrashDisk + Drop>(
     alloc: Global,
     scenario: &Scenario,
     disks: Disks<D>,
@@ -93,11 +94,9 @@ fn run_on<D: CrashDisk>(
 }
 
 /// Runs a scenario over the first trial disks of a rack, one for each node, and puts them back.
-fn run_in<R: Rack>(
-    alloc: Global,
-    scenario: &Scenario,
-    rack: &mut R,
-) -> Result<Outcome, Hindrance>
+fn run_in<R: Rack>(alloc: Global, scenario: &Scenario, rack: &mut R) -> Result<Outcome, Hindrance>
+where
+    R::Trial: Drop,
     requires sound { IsSound scenario.now }
     requires right { ((rules : Rules) → AreRightFor scenario.now rules → ⊥) → ⊥ }
     requires whole { IsWhole (disks (λ k. R.trial rack.old k) (R.real rack.old)) }
@@ -120,12 +119,15 @@ pub(crate) fn answer_of_net<R: Rack>(
     input: &[u8],
     rack: &mut R,
 ) -> Result<Outcome, Hindrance>
+where
+    R::Trial: Drop,
     requires input { length input.now ≤ 33554432 }
     requires whole { IsWhole (disks (λ k. R.trial rack.old k) (R.real rack.old)) }
     ensures acted { (words : List (List ℕ)) → Acted R.Trial.Disk R.Real.Disk words Command.Net input.now
         (disks (λ k. R.trial rack.old k) (R.real rack.old)) (disks (λ k. R.trial rack.new k) (R.real rack.new)) result }
     ensures whole { IsWhole (disks (λ k. R.trial rack.new k) (R.real rack.new)) }
 {
+    drafts_read_back();
     match read_scenario(alloc, input) {
         Ok(scenario) => run_in(alloc, &scenario, rack),
         Err(ScenarioFault::Refused { number, line }) => {

@@ -24,11 +24,11 @@ returns-in-Ok-write_all-clause-ends g c =
             output = c.in-Ok-write_all.ensures.bytes ∙ ap (append_known (g.K.Sink.held c.args.sink.now)) c.as_slice.ensures;
           })
           (safe_run command prepared.0 (record {
-              single = c.every_moment.ensures.single;
-              sourced = c.every_moment.ensures.sourced;
-              covered = c.every_moment.ensures.covered;
-              fulfilled = c.every_moment.ensures.fulfilled;
-            }));
+            single = c.every_moment.ensures.single;
+            sourced = c.every_moment.ensures.sourced;
+            covered = c.every_moment.ensures.covered;
+            fulfilled = c.every_moment.ensures.fulfilled;
+          }));
     }
 
 pub returns-in-Ok-write_all-clause-source_faults : goal.returns-in-Ok-write_all-clause-source_faults
