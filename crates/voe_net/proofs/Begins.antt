@@ -123,10 +123,10 @@ first-begun disk graph disks seats begun count =
     lists-same (map node_of (slots_of show seats)) (first_nodes (shape graph) 0 graph.nodes)
     (map-length node_of (slots_of show seats) ∙ map-length (slot_of show) seats ∙ begun.same ∙ count ∙ sym (first-length (shape graph) 0 graph.nodes))
     (λ n x y left right.
-        let slot = map-found node_of (slots_of show seats) n x left in
-        let is = slot-begun disk graph disks seats begun n slot.0 slot.1 in
-        let kind = slice_get-get_or graph.nodes n Subscriber (omega (arith, is.1, count)) in
-        let first = first-get (shape graph) 0 graph.nodes n (get_or graph.nodes n Subscriber) kind in
-        let at : 0 + n ≡ n = omega arith in
-        slot.2 ∙ ap node_of is.0 ∙ first-node (shape graph) n (get_or graph.nodes n Subscriber) (config_of graph n).links (config-links graph n)
-        ∙ ap (λ k. first_node (shape graph) k (get_or graph.nodes n Subscriber)) (sym at) ∙ some-same _ y (sym first ∙ right))
+    let slot = map-found node_of (slots_of show seats) n x left in
+    let is = slot-begun disk graph disks seats begun n slot.0 slot.1 in
+    let kind = slice_get-get_or graph.nodes n Subscriber (omega (arith, is.1, count)) in
+    let first = first-get (shape graph) 0 graph.nodes n (get_or graph.nodes n Subscriber) kind in
+    let at : 0 + n ≡ n = omega arith in
+    slot.2 ∙ ap node_of is.0 ∙ first-node (shape graph) n (get_or graph.nodes n Subscriber) (config_of graph n).links (config-links graph n)
+    ∙ ap (λ k. first_node (shape graph) k (get_or graph.nodes n Subscriber)) (sym at) ∙ some-same _ y (sym first ∙ right))

@@ -151,6 +151,6 @@ pub config-distinct : (graph : Graph) (node : ℕ) → IsProper (shape graph) �
 config-distinct graph node proper few edges =
     names-distinct [] (edges_from node graph.edges)
     (λ k edge at.
-        let there = filter-get (λ other. other.upper == node) graph.edges k edge at in
-        omega (arith, lower-within graph proper there.0 edge there.1))
+    let there = filter-get (λ other. other.upper == node) graph.edges k edge at in
+    omega (arith, lower-within graph proper there.0 edge there.1))
     (omega (arith, filter-length (λ other. other.upper == node) graph.edges))

@@ -157,9 +157,10 @@ module _ {D : Type 0} (disk : Ghosts D) (machine : MachineView (Option (EndView 
     pub there : (kind : NodeKind) (result : Option (Bor (EndView D))) → seat.up ≡ true → option_copied result ≡ if_kind kind seat.end
         → IsSome result ↔ IsUpAs kind (network_of disk machine) n
     there kind result here is =
-        let some : is_some result ≡ is_some (if_kind kind seat.end) = sym (copied-some result) ∙ ap is_some is in
-        ((λ h. (there-end kind seat.end refl (sym some ∙ h), up-at ∙ here)),
-        (λ up. some ∙ back-end kind seat.end refl (own.forms n (slot_of show seat) slot-at) (kind-at kind up.0)))
+        let some : is_some result ≡ is_some (if_kind kind seat.end) = sym (copied-some result) ∙ ap is_some is in (
+          (λ h. (there-end kind seat.end refl (sym some ∙ h), up-at ∙ here)),
+          (λ up. some ∙ back-end kind seat.end refl (own.forms n (slot_of show seat) slot-at) (kind-at kind up.0)),
+        )
 
     pub not-there : (kind : NodeKind) → seat.up ≡ false → (false ≡ true) ↔ IsUpAs kind (network_of disk machine) n
     not-there kind down = ((λ h. cc), (λ up. sym down ∙ sym up-at ∙ up.1))
