@@ -1,5 +1,5 @@
 -- How disks come back.
-use Rattle.std.proofs.Common.{◌≡◌, ℕ, zero, suc, ◌+◌, ◌<◌, ◌≤◌, List, [], ◌∷◌, ◌++◌, Some, None, inl, inr, length, take, refl, sym, ◌∙◌, ap, arith, append_assoc, length-append}
+use Rattle.std.proofs.Common.{◌≡◌, ℕ, zero, suc, ◌+◌, ◌≤◌, List, [], ◌∷◌, ◌++◌, Some, None, inl, inr, length, take, refl, sym, ◌∙◌, ap, arith, append_assoc, length-append}
 use Rattle.std.specs.Prelude.{Option, Result, IfErr, IfOk, Ok, Err, reverse, slice_get, true}
 use Rattle.std.proofs.lemmas.List.{append-nil, length-reverse, reverse-append, reverse-reverse}
 use Rattle.std.proofs.lemmas.Option.{slice_get_within}
@@ -14,11 +14,11 @@ use Rattle.voe_net.specs.Begun.{AreBegun, HasStarted, HasStopped, IsCauseAt}
 use Rattle.voe_net.specs.Each.{Each}
 use Rattle.voe_net.specs.Looking.{AreLooked, IsLooked, NoneFailed, SeesFault}
 use Rattle.voe_net.specs.Nodes.{IsBegun}
-use Rattle.voe_net.specs.Starting.{AllBlank, AllReadSame, AreBack, Explains, HasFailed, IsBlank, IsFirstMade, NoneArmed}
+use Rattle.voe_net.specs.Starting.{AllBlank, AllReadSame, AreBack, Explains, NoneArmed}
 use Rattle.voe_net.specs.TakenBack.{AreTakenBack, IsTakenBack}
 use Rattle.voe_net.specs.declared.fault.NetFault.{NetFault}
 use Rattle.voe_net.specs.declared.fault.NetFault.TheVariants.{AlreadyMade, Disk, NoMemory}
-use Rattle.voe_net.proofs.Eaches.{each-append, each-cons, each-follow, each-none, each-one, each-self, each-snoc, each-weaken, get-either, get-seam, get-there, some-same}
+use Rattle.voe_net.proofs.Eaches.{each-append, each-cons, each-follow, each-none, each-self, each-snoc, each-weaken, get-either, get-seam, get-there}
 use Rattle.voe_net.proofs.Looks.{blank-before, blank-same}
 
 -- what is written over all of a list

@@ -1,5 +1,5 @@
 -- What holds where nodes were made on all disks.
-use Rattle.std.proofs.Common.{◌≡◌, ℕ, zero, suc, ◌+◌, ◌<◌, ◌≤◌, ◌^◌, Bool, true, false, List, [], ◌∷◌, ◌++◌, Some, None, length, get_or, refl, sym, ◌∙◌, ap, arith, zero-add}
+use Rattle.std.proofs.Common.{◌≡◌, ℕ, zero, suc, ◌+◌, ◌<◌, Bool, true, false, List, [], ◌∷◌, ◌++◌, Some, length, get_or, refl, sym, ◌∙◌, ap, arith}
 use Rattle.std.specs.Prelude.{Option, cond, filter, map, slice_get, ◌==◌}
 use Rattle.std.proofs.lemmas.Option.{slice_get-get_or, slice_get_within}
 use Rattle.voe_disk.specs.declared.disk.Disk.{Ghosts}
@@ -9,8 +9,6 @@ use Rattle.net_model.specs.declared.scenario.Graph as net
 use Rattle.net_model.specs.declared.state.Node.{Node}
 use Rattle.net_model.specs.Nodes.{edges_of, links_of}
 use Rattle.net_model.specs.Runs.{first_node, first_nodes}
-use Rattle.node_notes.specs.Forms.{is_config}
-use Rattle.node_notes.specs.declared.config.Config.{Config}
 use Rattle.node_notes.specs.declared.config.LinkConfig.{LinkConfig}
 use Rattle.node_book.specs.Ends.{EndView}
 use Rattle.net_machine.specs.AtEnds.{AllTell, counts_of}
@@ -21,11 +19,10 @@ use Rattle.voe_scenario.specs.declared.graph.Edge.{Edge}
 use Rattle.voe_scenario.specs.declared.graph.Graph.{Graph}
 use Rattle.voe_scenario.specs.Shapes.{config_of, edges_from, ends_of, links_behind, shape}
 use Rattle.voe_net.specs.Begun.{AreBegun, IsConfigurable}
-use Rattle.voe_net.specs.Each.{Each}
 use Rattle.voe_net.specs.Networks.{AreOwn}
 use Rattle.voe_net.specs.Nodes.{IsBegun, TellsCrash, faults_of, first_sessions, first_view, show}
 use Rattle.voe_net.specs.Starting.{AllTellImages, AreConfigsOf}
-use Rattle.voe_net.proofs.Eaches.{each-maps, each-weaken, get-there, lists-same, map-found, map-get, map-length, some-same}
+use Rattle.voe_net.proofs.Eaches.{each-maps, each-weaken, get-there, lists-same, map-found, map-length, some-same}
 
 links-length : (earlier : List ℕ) (edges : List Edge) → length (links_behind earlier edges) ≡ length edges
 links-length earlier [] = refl

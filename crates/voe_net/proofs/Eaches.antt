@@ -1,8 +1,8 @@
 -- Lists that are compared place by place.
-use Rattle.std.proofs.Common.{◌≡◌, ℕ, zero, suc, ◌+◌, ◌<◌, ◌≤◌, List, [], ◌∷◌, ◌++◌, Some, None, ◌⊎◌, inl, inr, length, get_or, refl, sym, ◌∙◌, ap, arith, add-zero, append_assoc, length-append}
+use Rattle.std.proofs.Common.{◌≡◌, ℕ, zero, suc, ◌+◌, ◌<◌, List, [], ◌∷◌, ◌++◌, Some, ◌⊎◌, inl, inr, length, get_or, refl, sym, ◌∙◌, ap, arith, add-zero, length-append}
 use Rattle.std.specs.Prelude.{map, slice_get, slice_set}
 use Rattle.std.proofs.lemmas.Option.{slice_get_within}
-use Rattle.net_model.proofs.Members.{get-set, get-set_same, length-slice_set}
+use Rattle.net_model.proofs.Members.{get-set, length-slice_set}
 use Rattle.voe_net.specs.Each.{Each}
 
 pub some-same : {X : Type 0} (x y : X) → Some x ≡ Some y → x ≡ y
