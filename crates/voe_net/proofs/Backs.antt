@@ -1,5 +1,5 @@
 -- How disks come back.
-use Rattle.std.proofs.Common.{◌≡◌, ℕ, zero, suc, ◌+◌, ◌<◌, ◌≤◌, List, [], ◌∷◌, ◌++◌, Some, None, inl, inr, length, take, refl, sym, ◌∙◌, ap, arith, append_assoc, length-append}
+use Rattle.std.proofs.Common.{◌≡◌, ℕ, zero, suc, ◌+◌, ◌≤◌, List, [], ◌∷◌, ◌++◌, Some, None, inl, inr, length, take, refl, sym, ◌∙◌, ap, arith, append_assoc, length-append}
 use Rattle.std.specs.Prelude.{Option, Result, IfErr, IfOk, Ok, Err, reverse, slice_get, true}
 use Rattle.std.proofs.lemmas.List.{append-nil, length-reverse, reverse-append, reverse-reverse}
 use Rattle.std.proofs.lemmas.Option.{slice_get_within}
@@ -14,11 +14,11 @@ use Rattle.voe_net.specs.Begun.{AreBegun, HasStarted, HasStopped, IsCauseAt}
 use Rattle.voe_net.specs.Each.{Each}
 use Rattle.voe_net.specs.Looking.{AreLooked, IsLooked, NoneFailed, SeesFault}
 use Rattle.voe_net.specs.Nodes.{IsBegun}
-use Rattle.voe_net.specs.Starting.{AllBlank, AllReadSame, AreBack, Explains, HasFailed, IsBlank, IsFirstMade, NoneArmed}
+use Rattle.voe_net.specs.Starting.{AllBlank, AllReadSame, AreBack, Explains, NoneArmed}
 use Rattle.voe_net.specs.TakenBack.{AreTakenBack, IsTakenBack}
 use Rattle.voe_net.specs.declared.fault.NetFault.{NetFault}
 use Rattle.voe_net.specs.declared.fault.NetFault.TheVariants.{AlreadyMade, Disk, NoMemory}
-use Rattle.voe_net.proofs.Eaches.{each-append, each-cons, each-follow, each-none, each-one, each-self, each-snoc, each-weaken, get-either, get-seam, get-there, some-same}
+use Rattle.voe_net.proofs.Eaches.{each-append, each-cons, each-follow, each-none, each-self, each-snoc, each-weaken, get-either, get-seam, get-there}
 use Rattle.voe_net.proofs.Looks.{blank-before, blank-same}
 
 -- what is written over all of a list
@@ -38,11 +38,13 @@ pub taken-on : {D : Type 0} (disk : Ghosts D) (all before left : List (Seat (Opt
     → Taken disk all before disks were → before ≡ left ++ seat ∷ [] → IsTakenBack disk seat.end own → now ≡ were ++ own ∷ [] → Taken disk all left disks now
 taken-on disk all before left seat disks were now own so_far last one more =
     let gone = so_far.0 in
-    let back = so_far.1 in
-    (seat ∷ gone, own ∷ back,
-    so_far.2 ∙ ap (λ xs. xs ++ gone) last ∙ append_assoc left (seat ∷ []) gone,
-    each-cons (λ s d. IsTakenBack disk s.end d) seat own gone back one so_far.3,
-    more ∙ ap (λ xs. xs ++ own ∷ []) so_far.4 ∙ append_assoc disks (reverse back) (own ∷ []) ∙ ap (λ xs. disks ++ xs) (sym (reverse-append (own ∷ []) back)))
+    let back = so_far.1 in (
+      seat ∷ gone,
+      own ∷ back,
+      so_far.2 ∙ ap (λ xs. xs ++ gone) last ∙ append_assoc left (seat ∷ []) gone,
+      each-cons (λ s d. IsTakenBack disk s.end d) seat own gone back one so_far.3,
+      more ∙ ap (λ xs. xs ++ own ∷ []) so_far.4 ∙ append_assoc disks (reverse back) (own ∷ []) ∙ ap (λ xs. disks ++ xs) (sym (reverse-append (own ∷ []) back)),
+    )
 
 pub taken-all : {D : Type 0} (disk : Ghosts D) (all left : List (Seat (Option (EndView D)))) (disks now : List D) → Taken disk all left disks now → left ≡ []
     → (first : List D) × AreTakenBack disk all first × (reverse now ≡ first ++ reverse disks)
@@ -70,10 +72,11 @@ pub made-on : {D : Type 0} (disk : Ghosts D) (graph : Graph) (all before left : 
 made-on disk graph all before left own seats now end n made last count begun more =
     let first = made.0 in
     let same : n ≡ length first = omega (arith, made.2.same, count) in
-    let here = rw same at begun in
-    (first ++ own ∷ [],
-    made.1 ∙ ap (λ xs. first ++ reverse xs) last ∙ ap (λ xs. first ++ xs) (last-first left own) ∙ sym (append_assoc first (own ∷ []) (reverse left)),
-    rw more (each-snoc (λ k d s. (s.up ≡ true) × IsBegun disk (config_of graph k) d s.end) first seats own (record { up = true; end = end }) made.2 (refl, here)))
+    let here = rw same at begun in (
+      first ++ own ∷ [],
+      made.1 ∙ ap (λ xs. first ++ reverse xs) last ∙ ap (λ xs. first ++ xs) (last-first left own) ∙ sym (append_assoc first (own ∷ []) (reverse left)),
+      rw more (each-snoc (λ k d s. (s.up ≡ true) × IsBegun disk (config_of graph k) d s.end) first seats own (record { up = true; end = end }) made.2 (refl, here)),
+    )
 
 pub stopped-count : {D : Type 0} (disk : Ghosts D) (graph : Graph) (all left : List D) (seats : List (Seat (Option (EndView D)))) (fault : NetFault)
     → HasStopped disk graph all left seats fault → length seats + length left ≡ length all
@@ -141,7 +144,7 @@ pub stopped-back : {D : Type 0} (disk : Ghosts D) (graph : Graph) (all left : Li
     → HasStopped disk graph all left seats fault → AreTakenBack disk seats back → NoneArmed disk all → AreBack disk all (back ++ reverse left) fault
 stopped-back disk graph all left seats fault back stopped taken unarmed =
     let lists = stopped-lists disk graph stopped.first stopped.was stopped.now stopped.rest back seats fault stopped.begun taken stopped.refused.later stopped.refused.unarmed
-        stopped.refused.cause (rw stopped.all at unarmed) in
+    stopped.refused.cause (rw stopped.all at unarmed) in
     rw (stopped.all, stopped.left_is) lists
 
 pub untouched-back : {D : Type 0} (disk : Ghosts D) (disks : List D) → NoneArmed disk disks → AreBack disk disks disks NoMemory
@@ -182,18 +185,19 @@ rose-before first before now h rose = omega (arith, h, rose)
 later-cause : {D : Type 0} (disk : Ghosts D) (old mid new : List D) (fault : NetFault) → AreLooked disk old mid → length new ≡ length mid → Explains disk mid new fault
     → Explains disk old new fault
 later-cause disk old mid new (AlreadyMade n) looked same cause =
-    let own = get-there old n (omega (arith, slice_get_within mid n cause.0.own cause.0.there, looked.same)) in
-    (record {
-      own = own.0;
-      there = own.1;
-      made = λ blank. cause.0.made (blank-same disk own.0 cause.0.own (looked.each n own.0 cause.0.own own.1 cause.0.there) blank);
-      before = λ k other below at.
-          let between = get-there mid k (omega (arith, slice_get_within old k other at, looked.same)) in
-          blank-before disk other between.0 (looked.each k other between.0 at between.1) (cause.0.before k between.0 below between.1);
-    },
-    (λ k was now at is.
-        let between = get-there mid k (omega (arith, slice_get_within old k was at, looked.same)) in
-        cause.1 k between.0 now between.1 is ∙ (looked.each k was between.0 at between.1).reads))
+    let own = get-there old n (omega (arith, slice_get_within mid n cause.0.own cause.0.there, looked.same)) in (
+      record {
+        own = own.0;
+        there = own.1;
+        made = λ blank. cause.0.made (blank-same disk own.0 cause.0.own (looked.each n own.0 cause.0.own own.1 cause.0.there) blank);
+        before = λ k other below at.
+            let between = get-there mid k (omega (arith, slice_get_within old k other at, looked.same)) in
+            blank-before disk other between.0 (looked.each k other between.0 at between.1) (cause.0.before k between.0 below between.1);
+      },
+      (λ k was now at is.
+          let between = get-there mid k (omega (arith, slice_get_within old k was at, looked.same)) in
+          cause.1 k between.0 now between.1 is ∙ (looked.each k was between.0 at between.1).reads),
+    )
 later-cause disk old mid new (Disk n) looked same cause =
     let own = get-there old n (omega (arith, slice_get_within mid n cause.was cause.there, looked.same)) in
     record {
@@ -220,12 +224,14 @@ begun-before disk graph old mid seats looked quiet begun = record {
   each = λ n own seat at is.
       let between = get-there mid n (omega (arith, slice_get_within old n own at, looked.same)) in
       let one = begun.each n between.0 seat between.1 is in
-      let first = looked.each n own between.0 at between.1 in
-      (one.0, record {
-        shown = one.1.shown;
-        same_count = one.1.same_count ∙ quiet.each n own between.0 at between.1;
-        told = λ tells. one.1.told (λ fill. rw (first.images fill) (tells fill));
-      });
+      let first = looked.each n own between.0 at between.1 in (
+        one.0,
+        record {
+          shown = one.1.shown;
+          same_count = one.1.same_count ∙ quiet.each n own between.0 at between.1;
+          told = λ tells. one.1.told (λ fill. rw (first.images fill) (tells fill));
+        },
+      );
 }
 
 started-before : {D : Type 0} (disk : Ghosts D) (graph : Graph) (packets : List (List ℕ)) (old mid : List D) (machine : MachineView (Option (EndView D)))

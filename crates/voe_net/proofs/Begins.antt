@@ -1,5 +1,5 @@
 -- What holds where nodes were made on all disks.
-use Rattle.std.proofs.Common.{◌≡◌, ℕ, zero, suc, ◌+◌, ◌<◌, ◌≤◌, ◌^◌, Bool, true, false, List, [], ◌∷◌, ◌++◌, Some, None, length, get_or, refl, sym, ◌∙◌, ap, arith, zero-add}
+use Rattle.std.proofs.Common.{◌≡◌, ℕ, zero, suc, ◌+◌, ◌<◌, Bool, true, false, List, [], ◌∷◌, ◌++◌, Some, length, get_or, refl, sym, ◌∙◌, ap, arith}
 use Rattle.std.specs.Prelude.{Option, cond, filter, map, slice_get, ◌==◌}
 use Rattle.std.proofs.lemmas.Option.{slice_get-get_or, slice_get_within}
 use Rattle.voe_disk.specs.declared.disk.Disk.{Ghosts}
@@ -9,8 +9,6 @@ use Rattle.net_model.specs.declared.scenario.Graph as net
 use Rattle.net_model.specs.declared.state.Node.{Node}
 use Rattle.net_model.specs.Nodes.{edges_of, links_of}
 use Rattle.net_model.specs.Runs.{first_node, first_nodes}
-use Rattle.node_notes.specs.Forms.{is_config}
-use Rattle.node_notes.specs.declared.config.Config.{Config}
 use Rattle.node_notes.specs.declared.config.LinkConfig.{LinkConfig}
 use Rattle.node_book.specs.Ends.{EndView}
 use Rattle.net_machine.specs.AtEnds.{AllTell, counts_of}
@@ -21,11 +19,10 @@ use Rattle.voe_scenario.specs.declared.graph.Edge.{Edge}
 use Rattle.voe_scenario.specs.declared.graph.Graph.{Graph}
 use Rattle.voe_scenario.specs.Shapes.{config_of, edges_from, ends_of, links_behind, shape}
 use Rattle.voe_net.specs.Begun.{AreBegun, IsConfigurable}
-use Rattle.voe_net.specs.Each.{Each}
 use Rattle.voe_net.specs.Networks.{AreOwn}
 use Rattle.voe_net.specs.Nodes.{IsBegun, TellsCrash, faults_of, first_sessions, first_view, show}
 use Rattle.voe_net.specs.Starting.{AllTellImages, AreConfigsOf}
-use Rattle.voe_net.proofs.Eaches.{each-maps, each-weaken, get-there, lists-same, map-found, map-get, map-length, some-same}
+use Rattle.voe_net.proofs.Eaches.{each-maps, each-weaken, get-there, lists-same, map-found, map-length, some-same}
 
 links-length : (earlier : List ℕ) (edges : List Edge) → length (links_behind earlier edges) ≡ length edges
 links-length earlier [] = refl
@@ -123,10 +120,10 @@ first-begun disk graph disks seats begun count =
     lists-same (map node_of (slots_of show seats)) (first_nodes (shape graph) 0 graph.nodes)
     (map-length node_of (slots_of show seats) ∙ map-length (slot_of show) seats ∙ begun.same ∙ count ∙ sym (first-length (shape graph) 0 graph.nodes))
     (λ n x y left right.
-        let slot = map-found node_of (slots_of show seats) n x left in
-        let is = slot-begun disk graph disks seats begun n slot.0 slot.1 in
-        let kind = slice_get-get_or graph.nodes n Subscriber (omega (arith, is.1, count)) in
-        let first = first-get (shape graph) 0 graph.nodes n (get_or graph.nodes n Subscriber) kind in
-        let at : 0 + n ≡ n = omega arith in
-        slot.2 ∙ ap node_of is.0 ∙ first-node (shape graph) n (get_or graph.nodes n Subscriber) (config_of graph n).links (config-links graph n)
-        ∙ ap (λ k. first_node (shape graph) k (get_or graph.nodes n Subscriber)) (sym at) ∙ some-same _ y (sym first ∙ right))
+    let slot = map-found node_of (slots_of show seats) n x left in
+    let is = slot-begun disk graph disks seats begun n slot.0 slot.1 in
+    let kind = slice_get-get_or graph.nodes n Subscriber (omega (arith, is.1, count)) in
+    let first = first-get (shape graph) 0 graph.nodes n (get_or graph.nodes n Subscriber) kind in
+    let at : 0 + n ≡ n = omega arith in
+    slot.2 ∙ ap node_of is.0 ∙ first-node (shape graph) n (get_or graph.nodes n Subscriber) (config_of graph n).links (config-links graph n)
+    ∙ ap (λ k. first_node (shape graph) k (get_or graph.nodes n Subscriber)) (sym at) ∙ some-same _ y (sym first ∙ right))

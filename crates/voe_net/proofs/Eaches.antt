@@ -1,8 +1,8 @@
 -- Lists that are compared place by place.
-use Rattle.std.proofs.Common.{◌≡◌, ℕ, zero, suc, ◌+◌, ◌<◌, ◌≤◌, List, [], ◌∷◌, ◌++◌, Some, None, ◌⊎◌, inl, inr, length, get_or, refl, sym, ◌∙◌, ap, arith, add-zero, append_assoc, length-append}
+use Rattle.std.proofs.Common.{◌≡◌, ℕ, zero, suc, ◌+◌, ◌<◌, List, [], ◌∷◌, ◌++◌, Some, ◌⊎◌, inl, inr, length, get_or, refl, sym, ◌∙◌, ap, arith, add-zero, length-append}
 use Rattle.std.specs.Prelude.{map, slice_get, slice_set}
 use Rattle.std.proofs.lemmas.Option.{slice_get_within}
-use Rattle.net_model.proofs.Members.{get-set, get-set_same, length-slice_set}
+use Rattle.net_model.proofs.Members.{get-set, length-slice_set}
 use Rattle.voe_net.specs.Each.{Each}
 
 pub some-same : {X : Type 0} (x y : X) → Some x ≡ Some y → x ≡ y
@@ -106,9 +106,9 @@ each-self R xs same = record { same = refl; each = λ n a b at now. let is : a �
 pub each-maps : {A B C : Type 0} (f : A → C) (g : B → C) (xs : List A) (ys : List B) → Each (λ n a b. g b ≡ f a) xs ys → map g ys ≡ map f xs
 each-maps f g xs ys first = lists-same (map g ys) (map f xs) (map-length g ys ∙ first.same ∙ sym (map-length f xs))
     (λ n x y at now.
-        let b = map-found g ys n x at in
-        let a = map-found f xs n y now in
-        b.2 ∙ first.each n a.0 b.0 a.1 b.1 ∙ sym a.2)
+    let b = map-found g ys n x at in
+    let a = map-found f xs n y now in
+    b.2 ∙ first.each n a.0 b.0 a.1 b.1 ∙ sym a.2)
 
 -- another item of the second list, related as the one before it was
 pub each-set : {A B : Type 0} (R : ℕ → A → B → Type 0) (xs : List A) (ys : List B) (n : ℕ) (was now : B) → Each R xs ys → slice_get ys n ≡ Some was

@@ -1,12 +1,11 @@
 -- The names of a node's links are distinct.
-use Rattle.std.proofs.Common.{◌≡◌, ◌≢◌, ℕ, zero, suc, ◌+◌, ◌%◌, ◌/◌, ◌^◌, ◌<◌, ◌≤◌, Bool, true, false, List, [], ◌∷◌, ◌++◌, Some, None, length, inl, inr, refl, sym, ◌∙◌, ap, arith, append_assoc, length-append, eq-eqb}
-use Rattle.std.specs.Prelude.{map, cond, codes, filter, slice_get, ◌==◌, ◌||◌}
+use Rattle.std.proofs.Common.{◌≡◌, ◌≢◌, ℕ, zero, suc, ◌+◌, ◌%◌, ◌^◌, ◌<◌, ◌≤◌, Bool, true, false, List, [], ◌∷◌, ◌++◌, Some, length, inl, inr, refl, sym, ◌∙◌, ap, arith, append_assoc, length-append, eq-eqb}
+use Rattle.std.specs.Prelude.{cond, codes, filter, slice_get, ◌==◌, ◌||◌}
 use Rattle.std.specs.List.{list_any}
 use Rattle.std.specs.Fmt.{decimal}
 use Rattle.std.specs.Str.Parse.{digits_value}
 use Rattle.std.proofs.lemmas.Fmt.{decimal_is_IsNumeral, decimal_by_steps}
 use Rattle.std.proofs.lemmas.List.{append_cancel_left}
-use Rattle.std.proofs.lemmas.List.Folds.{list_any-append}
 use Rattle.std.proofs.lemmas.Option.{slice_get_within}
 use Rattle.net_model.specs.Draining.{IsProper}
 use Rattle.voe_scenario.specs.declared.graph.Edge.{Edge}
@@ -151,6 +150,6 @@ pub config-distinct : (graph : Graph) (node : ℕ) → IsProper (shape graph) �
 config-distinct graph node proper few edges =
     names-distinct [] (edges_from node graph.edges)
     (λ k edge at.
-        let there = filter-get (λ other. other.upper == node) graph.edges k edge at in
-        omega (arith, lower-within graph proper there.0 edge there.1))
+    let there = filter-get (λ other. other.upper == node) graph.edges k edge at in
+    omega (arith, lower-within graph proper there.0 edge there.1))
     (omega (arith, filter-length (λ other. other.upper == node) graph.edges))

@@ -1,13 +1,12 @@
 -- What is known of disks that were looked at.
-use Rattle.std.proofs.Common.{◌≡◌, ℕ, ◌<◌, ◌≤◌, ◌⊎◌, Bool, true, false, List, Some, None, length, refl, sym, ◌∙◌, ap, arith}
-use Rattle.std.specs.Prelude.{Err, Ok, Result, IfSome, slice_get, slice_set}
+use Rattle.std.proofs.Common.{◌≡◌, ℕ, ◌<◌, Bool, true, false, List, Some, None, length, refl, sym, ◌∙◌, ap, arith}
+use Rattle.std.specs.Prelude.{Err, Ok, Result, slice_get, slice_set}
 use Rattle.std.specs.Bool.{MatchBool}
 use Rattle.net_model.proofs.Members.{get-set_same}
 use Rattle.voe_disk.specs.Disk.{HasCause, Rose}
 use Rattle.voe_disk.specs.declared.disk.Disk.{Ghosts}
 use Rattle.voe_disk.specs.declared.fail.DiskFail.{DiskFail}
 use Rattle.voe_disk.specs.declared.fail.DiskFail.TheVariants.{Fault, Stopped}
-use Rattle.gate_journal.specs.Reading.{IsUnmade}
 use Rattle.voe_net.specs.Each.{Each}
 use Rattle.voe_net.specs.Looking.{AreLooked, IsLooked, NoneFailed}
 use Rattle.voe_net.specs.Starting.{HasFailed, IsBlank, IsFirstMade, NoneArmed}

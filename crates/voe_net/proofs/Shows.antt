@@ -1,27 +1,23 @@
 -- What a network shows of its nodes.
-use Rattle.std.proofs.Common.{◌≡◌, ℕ, ◌≤◌, Bool, true, false, List, [], ◌∷◌, Some, None, length, refl, sym, ◌∙◌, ap, subst, arith}
+use Rattle.std.proofs.Common.{◌≡◌, ℕ, ◌≤◌, Bool, true, false, List, [], Some, None, length, refl, sym, ◌∙◌, ap, subst, arith}
 use Rattle.std.specs.Prelude.{Option, IfSome, IsSome, cond, is_some, map, slice_get, ◌&&◌, ◌↔◌}
 use Rattle.std.specs.Option.{option_copied}
 use Rattle.std.specs.Borrow.{Bor}
 use Rattle.voe_disk.specs.declared.disk.Disk.{Ghosts}
 use Rattle.voe_disk.specs.declared.fail.DiskFail.{DiskFail}
-use Rattle.gate_journal.specs.Journal.{EachFile}
 use Rattle.voe_values.specs.EndName.{is_end_name}
 use Rattle.voe_values.specs.declared.kind.NodeKind.{NodeKind}
 use Rattle.voe_values.specs.declared.kind.NodeKind.TheVariants.{Author, Broker, Subscriber}
 use Rattle.net_model.specs.declared.scenario.Graph.{Graph}
-use Rattle.net_model.specs.Nodes.{is_up, notes_at, notes_of}
+use Rattle.net_model.specs.Nodes.{is_up, notes_of}
 use Rattle.node_notes.specs.Forms.{is_config, is_name}
-use Rattle.node_notes.specs.declared.config.Config.{Config}
 use Rattle.node_book.specs.Ends.{EndView}
-use Rattle.node_book.specs.Keeps.{Keeps}
 use Rattle.net_machine.specs.AtEnds.{AllTell, counts_of}
 use Rattle.net_machine.specs.Counts.{NoneFell}
 use Rattle.net_machine.specs.Ends as net_ends
 use Rattle.net_machine.specs.Machine.{MachineView}
-use Rattle.net_machine.specs.Parts.{IsOwn, IsWhole, Moment, Slot, configs_of, moment_of, node_of, slot_of, slots_of, state_of}
+use Rattle.net_machine.specs.Parts.{IsWhole, Moment, Slot, configs_of, node_of, slot_of, slots_of}
 use Rattle.net_machine.specs.declared.seat.Seat.{Seat}
-use Rattle.voe_net.specs.Each.{Each}
 use Rattle.voe_net.specs.Networks.{AllKeep, AreOwn, IsEndOf, IsUpAs, network_of}
 use Rattle.voe_net.specs.Nodes.{TellsCrash, faults_of, if_kind, if_kind_up, is_same, nothing, show, show_up, steps_of}
 use Rattle.voe_net.specs.Starting.{AllTellImages}
@@ -157,9 +153,10 @@ module _ {D : Type 0} (disk : Ghosts D) (machine : MachineView (Option (EndView 
     pub there : (kind : NodeKind) (result : Option (Bor (EndView D))) → seat.up ≡ true → option_copied result ≡ if_kind kind seat.end
         → IsSome result ↔ IsUpAs kind (network_of disk machine) n
     there kind result here is =
-        let some : is_some result ≡ is_some (if_kind kind seat.end) = sym (copied-some result) ∙ ap is_some is in
-        ((λ h. (there-end kind seat.end refl (sym some ∙ h), up-at ∙ here)),
-        (λ up. some ∙ back-end kind seat.end refl (own.forms n (slot_of show seat) slot-at) (kind-at kind up.0)))
+        let some : is_some result ≡ is_some (if_kind kind seat.end) = sym (copied-some result) ∙ ap is_some is in (
+          (λ h. (there-end kind seat.end refl (sym some ∙ h), up-at ∙ here)),
+          (λ up. some ∙ back-end kind seat.end refl (own.forms n (slot_of show seat) slot-at) (kind-at kind up.0)),
+        )
 
     pub not-there : (kind : NodeKind) → seat.up ≡ false → (false ≡ true) ↔ IsUpAs kind (network_of disk machine) n
     not-there kind down = ((λ h. cc), (λ up. sym down ∙ sym up-at ∙ up.1))

@@ -1,5 +1,5 @@
 -- What was seen of the disks so far.
-use Rattle.std.proofs.Common.{◌≡◌, ℕ, ◌<◌, Some, sym, ◌∙◌, arith, below_more}
+use Rattle.std.proofs.Common.{◌≡◌, Some, sym, ◌∙◌, arith, below_more}
 use Rattle.std.specs.Prelude.{slice_get}
 use Rattle.std.proofs.lemmas.Option.{slice_get-get_or, slice_get_within}
 use Rattle.voe_net.specs.Starting.{IsBlank}

@@ -1,5 +1,5 @@
 -- The nodes that were made so far.
-use Rattle.std.proofs.Common.{◌≡◌, [], ◌∷◌, ◌+◌, true, arith, ap, length, length-append, reverse}
+use Rattle.std.proofs.Common.{[], ◌∷◌, true, arith, ap, length, length-append, reverse}
 use Rattle.voe_net.proofs.Backs.{made-on, next-there}
 use Rattle.voe_net.proofs.start.fill_seats.Goals as goal
 

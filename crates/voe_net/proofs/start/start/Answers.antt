@@ -1,5 +1,5 @@
 -- Disks that were looked at before nodes are made on them.
-use Rattle.std.proofs.Common.{◌≡◌, List, drop, length, take, sym, ◌∙◌, subst, arith, ap, ◌++◌}
+use Rattle.std.proofs.Common.{◌≡◌, List, drop, length, sym, ◌∙◌, subst}
 use Rattle.std.specs.Prelude.{IfErr, IfOk}
 use Rattle.voe_net.specs.Begun.{HasStarted}
 use Rattle.voe_net.specs.Looking.{AreLooked, NoneFailed, SeesFault}

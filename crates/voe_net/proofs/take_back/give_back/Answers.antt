@@ -1,6 +1,6 @@
 -- The disks that were taken so far.
 use Rattle.std.proofs.Common.{[], ◌∷◌, arith, ap, length, length-append}
-use Rattle.voe_net.proofs.Backs.{taken-all, taken-first, taken-on}
+use Rattle.voe_net.proofs.Backs.{taken-first, taken-on}
 use Rattle.voe_net.proofs.take_back.give_back.Goals as goal
 
 pub loop-seat-init : goal.loop-seat-init

@@ -1,5 +1,5 @@
 -- The end that is shown.
-use Rattle.std.proofs.Common.{◌≡◌, sym, ◌∙◌, ap}
+use Rattle.std.proofs.Common.{sym, ◌∙◌, ap}
 use Rattle.voe_values.specs.declared.kind.NodeKind.TheVariants.{Broker}
 use Rattle.voe_net.proofs.Shows.{not-there, shown, there}
 use Rattle.voe_net.proofs.network.Network.broker.Goals as goal

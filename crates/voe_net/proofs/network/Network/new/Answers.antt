@@ -1,5 +1,5 @@
 -- The network at its beginning.
-use Rattle.std.proofs.Common.{◌≡◌, List, ap, arith, length, sym, ◌∙◌, subst}
+use Rattle.std.proofs.Common.{List, ap, arith, length, sym, ◌∙◌, subst}
 use Rattle.std.specs.Prelude.{map}
 use Rattle.net_model.specs.declared.scenario.Graph as net
 use Rattle.net_machine.specs.Parts.{slots_of}
