@@ -7,7 +7,6 @@ use Rattle.gate_journal.specs.Device.{IsSameDisk}
 use Rattle.net_model.proofs.Members.{IsIn-append}
 use Rattle.voe_values.specs.declared.kind.NodeKind.TheVariants.{Subscriber}
 use Rattle.net_model.specs.Rules.{NodeRules}
-use Rattle.net_model.specs.Steps.{last_of}
 use Rattle.net_model.specs.declared.note.Note.{Note}
 use Rattle.net_model.specs.declared.state.Verdict.{Verdict}
 use Rattle.node_notes.specs.Forms.{is_config}
@@ -28,7 +27,6 @@ use Rattle.voe_net.specs.Right.{IsRight}
 use Rattle.voe_net.specs.Told.{told_as}
 use Rattle.voe_net.specs.Worked.{AllBring, HasWorked, outcome_of}
 use Rattle.voe_net.specs.declared.kept.Kept.{Kept}
-use Rattle.voe_net.specs.declared.kept.Kept.TheVariants.{Author, Broker}
 use Rattle.voe_net.specs.declared.working.Worked.{Worked}
 use Rattle.voe_net.specs.declared.working.Worked.TheVariants.{Answered, Fallen, NoMemory}
 
@@ -51,15 +49,6 @@ module _ {D : Type 0} (disk : Ghosts D) where
     configured = λ still. configured disk (end_of old) (end_of new) same (node.configured up);
     unarmed = same_disk.unarmed node.unarmed;
   }
-
-  pub author_stays : (old new : EndView D) → IsKeptNode disk (Author old) → old.down ≡ None → new.config ≡ old.config → new.sessions ≡ old.sessions → IsSameDisk disk old.disk new.disk → IsKeptNode disk (Author new)
-  author_stays old new node up config_is sessions_are same =
-      still_node (Author old) (Author new) node up (ap (λ (config : Config). config.kind) config_is ∙ node.kind) (sessions_are ∙ node.sessions) config_is same
-
-  pub broker_stays : (old new : EndView D) → IsKeptNode disk (Broker old) → old.down ≡ None → new.config ≡ old.config → length new.sessions ≡ length old.sessions → IsSameDisk disk old.disk new.disk → IsKeptNode disk (Broker new)
-  broker_stays old new node up config_is same_length same =
-      still_node (Broker old) (Broker new) node up (ap (λ (config : Config). config.kind) config_is ∙ node.kind)
-      (same_length ∙ node.sessions ∙ sym (ap (λ (config : Config). length config.links) config_is)) config_is same
 
   -- the end was up and has worked, or nothing has changed
   abbrev pub HasDone : Work → Kept D → Kept D → Worked → Type 0
@@ -159,9 +148,3 @@ pub up_over : {D : Type 0} (end : EndView D) (number : ℕ) → ((show (Some end
 up_over end number not_subscriber low =
     let up = up_by end end.down not_subscriber in
     record { up = up; within = (let P : Option DiskFail → Type 0 = λ d. number < length (show_up end d).config.links in subst P up low) }
-
-pub current_over : {D : Type 0} (end : EndView D) (number session : ℕ) → end.down ≡ None → session ≡ last_of (show (Some end)).sessions number → session ≡ last_of end.sessions number
-current_over end number session up is = (let P : Option DiskFail → Type 0 = λ d. session ≡ last_of (show_up end d).sessions number in subst P up is)
-
-pub not_subscriber_over : {D : Type 0} (end : EndView D) → end.down ≡ None → ((show (Some end)).config.kind ≡ Subscriber → ⊥) → end.config.kind ≡ Subscriber → ⊥
-not_subscriber_over end up not_subscriber = (let P : Option DiskFail → Type 0 = λ d. (show_up end d).config.kind ≡ Subscriber → ⊥ in subst P up not_subscriber)

@@ -1,4 +1,4 @@
-use Rattle.std.proofs.Common.{◌≡◌, sym, subst}
+use Rattle.std.proofs.Common.{sym, subst}
 use Rattle.net_machine.specs.declared.work.Work.{Work}
 use Rattle.voe_net.specs.Worked.{HasWorked}
 use Rattle.voe_net.proofs.author_work.author_works.Goals as goal
