@@ -1,11 +1,10 @@
 -- The packets of a scenario are good ones.
 use Rattle.std.proofs.Common.{◌≡◌, ℕ, ◌+◌, Bool, true, false, ◌&&◌, List, [], ◌∷◌, map, Some, None, refl, sym, ap, subst}
-use Rattle.std.specs.Prelude.{IsTrue, codes, if◌then◌else◌}
+use Rattle.std.specs.Prelude.{IsTrue, if◌then◌else◌}
 use Rattle.std.specs.List.{All, list_all}
 use Rattle.net_model.specs.Laws.{IsIn}
 use Rattle.net_model.specs.declared.step.Judged.{Judged}
 use Rattle.net_model.specs.declared.step.Judged.TheVariants.{Good}
-use Rattle.voe_tree.specs.Contents.{attribute_of}
 use Rattle.voe_tree.specs.Document.{Spells}
 use Rattle.voe_tree.specs.Identifier.{identifier_of, is_identifier}
 use Rattle.voe_tree.specs.Validity.{is_valid, least_broken_in, least_broken_row, rows}

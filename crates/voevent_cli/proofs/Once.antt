@@ -1,5 +1,5 @@
 -- Of an input one outcome is wanted.
-use Rattle.std.proofs.Common.{◌≡◌, ◌⊎◌, inl, inr, ℕ, zero, suc, ◌<◌, Bool, true, false, Decides, List, [], ◌∷◌, length, slice_get, Result, Ok, Err, Some, None, refl, sym, ◌∙◌, ap, subst, arith}
+use Rattle.std.proofs.Common.{◌≡◌, ◌⊎◌, inl, inr, ℕ, ◌<◌, Bool, true, false, Decides, List, [], length, Result, Ok, Err, Some, None, refl, sym, ◌∙◌, ap, subst, arith}
 use Rattle.std.specs.declared.option.Option.{Option}
 use Rattle.std.specs.Prelude.{cond, IfSome}
 use Rattle.std.specs.Str.{bytes_eq}

@@ -1,9 +1,9 @@
 -- A network that was run is the run of its scenario.
-use Rattle.std.proofs.Common.{◌≡◌, ℕ, ◌<◌, ◌≤◌, ◌+◌, false, true, List, length, slice_get, map, Result, Ok, Err, Some, None, inl, inr, refl, sym, ◌∙◌, ap, subst, arith, zero, suc, [], ◌∷◌}
+use Rattle.std.proofs.Common.{◌≡◌, ℕ, ◌<◌, false, List, length, slice_get, map, Result, Ok, Err, Some, None, inl, inr, sym, ◌∙◌, ap, subst, arith, zero, suc, [], ◌∷◌}
 use Rattle.std.proofs.lemmas.List.{length-map}
-use Rattle.std.specs.Prelude.{IfErr, IfOk, OnOk, IfSome}
+use Rattle.std.specs.Prelude.{IfErr, IfOk, OnOk}
 use Rattle.std.specs.List.{All}
-use Rattle.net_machine.specs.Counts.{NoneFell, RoseAt}
+use Rattle.net_machine.specs.Counts.{RoseAt}
 use Rattle.net_machine.specs.Ends.{AllPackets, IsPacket}
 use Rattle.net_machine.specs.Parts.{AreRight}
 use Rattle.net_machine.specs.Report.{report_of}
@@ -12,14 +12,14 @@ use Rattle.net_model.specs.declared.scenario.Graph.{Graph}
 use Rattle.net_model.specs.declared.state.State.{State}
 use Rattle.net_model.specs.Nodes.{notes_at}
 use Rattle.net_model.specs.Rules.{Rules, rules_at}
-use Rattle.net_model.specs.Runs.{after, beginning, run}
+use Rattle.net_model.specs.Runs.{beginning, run}
 use Rattle.gate_journal.specs.Journal.{EachFile}
 use Rattle.node_book.specs.Keeps.{Keeps}
 use Rattle.node_notes.specs.declared.config.Config.{Config}
 use Rattle.voe_disk.specs.declared.disk.Disk.{Ghosts}
 use Rattle.voe_net.specs.Networks.{AllKeep, NetworkView, TellsCrashes}
 use Rattle.voe_net.specs.Right.{IsRight}
-use Rattle.voe_net.specs.Starting.{AllBlank, AllTellImages, AreBack, AreConfigsOf, Explains, HasFailed}
+use Rattle.voe_net.specs.Starting.{AllBlank, AllTellImages, AreConfigsOf, Explains, HasFailed}
 use Rattle.voe_net.specs.declared.fault.NetFault.{NetFault}
 use Rattle.voe_net.specs.declared.fault.NetFault.TheVariants as net
 use Rattle.voe_scenario.specs.Shapes.{config_of, shape}
@@ -29,7 +29,6 @@ use Rattle.voevent_cli.specs.Hindered.{Hinders, IsHinderedRun, IsHinderedStep}
 use Rattle.voevent_cli.specs.Nets.{AreRightFor, KeepNodes, Runs, final_state, node_count}
 use Rattle.voevent_cli.specs.Outcomes.{done, refused}
 use Rattle.voevent_cli.specs.declared.outcome.Outcome.{Outcome}
-use Rattle.voevent_cli.specs.declared.outcome.Status.{Status}
 use Rattle.voevent_cli.specs.declared.prepare.Hindrance.{Hindrance}
 use Rattle.voevent_cli.specs.declared.prepare.Hindrance.TheVariants.{ReadFault, DiskFault, NoMemory}
 use Rattle.voevent_cli.specs.declared.refusal.Refusal.TheVariants.{MadeAt}

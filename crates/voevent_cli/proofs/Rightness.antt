@@ -1,8 +1,8 @@
 -- There are right rules for each scenario.
-use Rattle.std.proofs.Common.{◌≡◌, ℕ, ◌<◌, Bool, false, List, length, refl}
+use Rattle.std.proofs.Common.{ℕ, ◌<◌, Bool, false, List, length, refl}
 use Rattle.std.specs.Prelude.{IsTrue, ◌↔◌}
 use Rattle.net_model.specs.Laws.{IsIn}
-use Rattle.net_model.specs.Rules.{Rules, rules_at}
+use Rattle.net_model.specs.Rules.{Rules}
 use Rattle.net_model.specs.declared.step.Judged.{Judged}
 use Rattle.net_model.specs.declared.step.Judged.TheVariants.{BadTree}
 use Rattle.node_book.specs.Keeps.{has_room}

@@ -1,5 +1,5 @@
 -- What is wanted, case by case.
-use Rattle.std.proofs.Common.{◌+◌, ◌≡◌, ◌==◌, false, ℕ, ◌<◌, ◌≤◌, Bool, true, List, [], ◌++◌, length, cond, refl, ap, sym, ◌∙◌, subst, Err, Ok, Result, Some, None, inl, inr, arith, append-nil, length-append}
+use Rattle.std.proofs.Common.{◌+◌, ◌≡◌, ◌==◌, false, ℕ, ◌<◌, ◌≤◌, Bool, true, List, [], ◌++◌, length, refl, ap, sym, ◌∙◌, subst, Err, Ok, Result, Some, None, inl, inr, arith, append-nil, length-append}
 use Rattle.std.specs.declared.option.Option.{Option}
 use Rattle.std.specs.Prelude.{if◌then◌else◌}
 use Rattle.std.proofs.lemmas.Bool.{lt-ltb}
@@ -17,8 +17,8 @@ use Rattle.voe_validity.specs.Judging.{number_of_fault}
 use Rattle.vtp_messages.specs.Parts.{is_transport, role_of, origin_of}
 use Rattle.vtp_messages.specs.declared.role.MessageRole.{MessageRole}
 use Rattle.voevent_cli.specs.Documents.{Document, tree, no_tree, too_long, WantedOf, checked, checked_by, place_of_fault, shown, shown_by, shown_message, wanted_of}
-use Rattle.voevent_cli.specs.Outcomes.{done, refused}
-use Rattle.voevent_cli.specs.Nets.{Nets, Runs}
+use Rattle.voevent_cli.specs.Outcomes.{refused}
+use Rattle.voevent_cli.specs.Nets.{Runs}
 use Rattle.voevent_cli.specs.declared.command.Command.{Command}
 use Rattle.voevent_cli.specs.declared.command.Command.TheVariants.{Net, Check, Show, Match, Init}
 use Rattle.voevent_cli.specs.declared.outcome.Status.{Status}
@@ -27,17 +27,16 @@ use Rattle.voevent_cli.specs.declared.outcome.Outcome.{Outcome}
 use Rattle.voevent_cli.specs.declared.refusal.Refusal.TheVariants.{TooLong, Tree, Validity, BadRole, NoOrigin, Scenario as BadLine, Filter, Foreign, Damaged, Made, MadeAt}
 use Rattle.filter_text.specs.Filter.{Path}
 use Rattle.filter_text.specs.Reading.{Reads as Spells_filter}
-use Rattle.path_filter.specs.Meaning.{Passes}
-use Rattle.voevent_cli.specs.Matches.{IsMatched, IsNoFilter, IsRefusedFilter, MatchedOf, Matches, refusal_of_filter}
+use Rattle.voevent_cli.specs.Matches.{IsMatched, IsNoFilter, MatchedOf, refusal_of_filter}
 use Rattle.voevent_cli.specs.Lines.{status_of_refusal}
-use Rattle.voevent_cli.specs.Inits.{Inits, MakesOn}
+use Rattle.voevent_cli.specs.Inits.{MakesOn}
 use Rattle.node_notes.specs.declared.config.Config.{Config}
 use Rattle.voe_scenario.specs.Configs.{IsConfigOf, configured, with_config_line}
 use Rattle.voe_scenario.specs.ConfigRefusals.{RefusesConfigLine}
 use Rattle.voe_scenario.specs.Lines.{LinesRead, TextRead, Refusal as BadText}
 use Rattle.std.specs.Prelude.{MatchBool}
 use Rattle.voevent_cli.specs.Wanted.{Acts, ActsAs, Wants, code_of, command_of, filter_of, limit_of}
-use Rattle.voevent_cli.specs.Answers.{Moment, HasRead, HasReadFor, ReadsOn, Answered, IsSafeRun, Says, DoesAll}
+use Rattle.voevent_cli.specs.Answers.{Moment, HasReadFor, ReadsOn, Answered, IsSafeRun, Says, DoesAll}
 use Rattle.filter_text.specs.Refusal.{Refuses as Refuses_filter}
 use Rattle.filter_text.specs.declared.fault.FilterFault.{FilterFault}
 use Rattle.filter_text.specs.declared.fault.FilterFault.TheVariants.{NoMemory as NoRoom}

@@ -1,5 +1,5 @@
 -- What `match` says of a filter and a document.
-use Rattle.std.specs.Prelude.{◌≡◌, ◌≢◌, ◌⊎◌, ℕ, List, Some, None, codes}
+use Rattle.std.specs.Prelude.{◌≡◌, ◌⊎◌, ℕ, List, Some, None, codes}
 use Rattle.std.specs.declared.option.Option.{Option}
 use Rattle.filter_text.specs.Filter.{Path}
 use Rattle.filter_text.specs.Reading.{Reads}

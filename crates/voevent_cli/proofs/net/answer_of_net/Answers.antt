@@ -1,5 +1,5 @@
 -- There are right rules, since each packet is the text of a draft; a refused line calls no disk.
-use Rattle.std.proofs.Common.{inl, inr, refl}
+use Rattle.std.proofs.Common.{inl, refl}
 use Rattle.voevent_cli.proofs.Judged.{all_judged}
 use Rattle.voevent_cli.proofs.Rightness.{right_rules}
 use Rattle.voevent_cli.proofs.net.answer_of_net.Goals as goal

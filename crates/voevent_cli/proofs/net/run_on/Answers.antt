@@ -1,7 +1,7 @@
 -- A network that begins and is stepped through all events was run.
 use Rattle.std.proofs.Common.{◌∙◌, ap, length, arith}
 use Rattle.std.proofs.lemmas.List.{length-map}
-use Rattle.voevent_cli.proofs.Ran.{Begins, Steps, all_packets, hindered_where, not_begun, ran, refused_where}
+use Rattle.voevent_cli.proofs.Ran.{all_packets, hindered_where, not_begun, ran, refused_where}
 use Rattle.voevent_cli.proofs.net.run_on.Goals as goal
 
 pub new-requires-clause-packets : goal.new-requires-clause-packets
