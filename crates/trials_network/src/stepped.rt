@@ -1,6 +1,6 @@
 //! The same scenario through the top call and through a network that is stepped, where a disk fails.
 
-ghost use Rattle.std.specs.Prelude.{◌≡◌, IfOk, length};
+ghost use Rattle.std.specs.Prelude.{◌≡◌, IfOk, false, length};
 ghost use Rattle.voe_net.specs.Starting.{NoneArmed};
 
 use crate::call::{failed, whole_rack};
