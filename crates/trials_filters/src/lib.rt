@@ -5,4 +5,6 @@
 #![tactic(auto)]
 
 #[cfg(test)]
+mod passes;
+#[cfg(test)]
 mod texts;
