@@ -68,12 +68,7 @@ fn a_stop_keeps_a_record_or_not(rt: HostRuntime) -> Result<(), Fail> {
     for (stop, held) in &table {
         let input = format!(in alloc; "{PATH}send 0\ndown 0\nup 0\nsend 1\n{stop}")?;
         let report = format!(in alloc; "{OWED}{held}")?;
-        check(
-            &rt,
-            &Call::net(input.as_bytes(), 64),
-            0,
-            report.as_str(),
-        )?;
+        check(&rt, &Call::net(input.as_bytes(), 64), 0, report.as_str())?;
         let drained = format!(in alloc; "{input}drain\n")?;
         check(&rt, &Call::net(drained.as_bytes(), 64), 0, DELIVERED)?;
     }
@@ -96,12 +91,7 @@ fn a_lost_answer_leaves_the_delivery_owed(rt: HostRuntime) -> Result<(), Fail> {
     let alloc = rt.alloc();
     let input = format!(in alloc; "{PATH}send 0\ndown 0\nup 0\nsend 1\ndown 1\ncut 1\n")?;
     let report = format!(in alloc; "{OWED}node 2 subscriber up entered 1\n  ivo://a/k#1\n")?;
-    check(
-        &rt,
-        &Call::net(input.as_bytes(), 64),
-        0,
-        report.as_str(),
-    )?;
+    check(&rt, &Call::net(input.as_bytes(), 64), 0, report.as_str())?;
     let drained = format!(in alloc; "{input}drain\n")?;
     check(&rt, &Call::net(drained.as_bytes(), 64), 0, DELIVERED)
 }

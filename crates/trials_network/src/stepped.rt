@@ -2,14 +2,16 @@
 
 ghost use Rattle.std.specs.Prelude.{◌≡◌, IfOk, false, length};
 ghost use Rattle.voe_net.specs.Starting.{NoneArmed};
+ghost use Rattle.voe_scenario.specs.Sound.{IsSound};
 
 use crate::call::{failed, whole_rack};
+use crate::trial_disks::set_disk;
 use std::process::Abort;
 use std::test::Fail;
-use voe_disk::{Disk, MemoryDisk, MemoryRack, Rack};
+use voe_disk::{Disk, MemoryDisk};
 use voe_net::{Disks, NetFault, Network};
 use voe_outside::{MemorySink, MemorySource};
-use voe_scenario::{Scenario, ScenarioFault, read_scenario};
+use voe_scenario::{Scenario, read_scenario};
 use voe_values::{Bytes, NoMemory, Text};
 use voevent_cli::offline;
 
@@ -17,23 +19,11 @@ use voevent_cli::offline;
 const STOPPED: &str =
     "author\nbroker\nsubscriber\nline 0 1\nlink 1 2\npacket ivo://a/k#1 test\nwrite 0 0\nsend 0\nstop 4 0 down 0\ndrain\n";
 
-fn unread(_: ScenarioFault) -> Fail {
-    Fail::from("the scenario was not read")
-}
-
-/// An empty disk that fails at this call.
-fn failing_at(rt: &(impl Abort + AllocGlobal), call: u8) -> Result<MemoryDisk, NoMemory> {
-    let alloc = rt.alloc();
-    Ok(MemoryDisk::new(alloc, Bytes::new(alloc), Bytes::of(alloc, &[call])?))
-}
-
 /// The status of the run through the top call, where disk 1 fails at this call.
 fn by_top_call(rt: &(impl Abort + AllocGlobal), call: u8) -> Result<u8, Fail> {
     let alloc = rt.alloc();
     let mut rack = whole_rack(alloc).map_err(failed)?;
-    let disk = failing_at(rt, call).map_err(failed)?;
-    let _ = rack.lend(1);
-    rack.put_back(1, disk);
+    set_disk(rt, &mut rack, 1, b"", &[call]).map_err(failed)?;
     let input = Bytes::of(alloc, STOPPED.as_bytes()).map_err(failed)?;
     let mut source = MemorySource::new(input, 64, Bytes::new(alloc));
     let mut sink = MemorySink::new(alloc, 64, Bytes::new(alloc));
@@ -42,10 +32,7 @@ fn by_top_call(rt: &(impl Abort + AllocGlobal), call: u8) -> Result<u8, Fail> {
 }
 
 /// Three empty disks, of which the second fails at this call.
-fn three_disks(
-    rt: &(impl Abort + AllocGlobal),
-    call: u8,
-) -> Result<Disks<MemoryDisk>, NoMemory>
+fn three_disks(rt: &(impl Abort + AllocGlobal), call: u8) -> Result<Disks<MemoryDisk>, NoMemory>
     ensures count { IfOk result (λ disks. length disks ≡ 3) }
     ensures unarmed { IfOk result (λ disks. NoneArmed ⟦<MemoryDisk as Disk>⟧ disks) }
 {
@@ -68,15 +55,28 @@ fn status_of(fault: NetFault) -> Result<u8, Fail> {
     }
 }
 
-/// The status of the run through a network that is stepped event by event, where disk 1 fails at this call.
-fn by_steps(rt: &(impl Abort + AllocGlobal), call: u8) -> Result<u8, Fail> {
-    let alloc = rt.alloc();
-    let scenario = read_scenario(alloc, STOPPED.as_bytes()).map_err(unread)?;
+/// The status of the scenario's run through a network that is stepped event by event, where disk 1 fails at this call.
+fn step_scenario(rt: &(impl Abort + AllocGlobal), scenario: &Scenario, call: u8) -> Result<u8, Fail>
+    requires { IsSound scenario.now }
+{
     assert!(rt; scenario.graph.nodes.len() == 3);
     let disks = three_disks(rt, call).map_err(failed)?;
-    match Network::new(alloc, &scenario.graph, scenario.packets.as_slice(), disks) {
-        Ok(network) => step_all(network, &scenario),
+    match Network::new(
+        rt.alloc(),
+        &scenario.graph,
+        scenario.packets.as_slice(),
+        disks,
+    ) {
+        Ok(network) => step_all(network, scenario),
         Err((_, fault)) => status_of(fault),
+    }
+}
+
+/// The status of the run through a network that is stepped event by event, where disk 1 fails at this call.
+fn by_steps(rt: &(impl Abort + AllocGlobal), call: u8) -> Result<u8, Fail> {
+    match read_scenario(rt.alloc(), STOPPED.as_bytes()) {
+        Ok(scenario) => step_scenario(rt, &scenario, call),
+        Err(_) => Err(Fail::from("the scenario was not read")),
     }
 }
 

@@ -19,7 +19,7 @@ const DELIVERED: &str =
 const SUBSCRIBER: &[u8] = b"\x01VOEVENT JRNL 1\n\x01\0\0\0\x11\0s\0\x0civo://node/0\0\0";
 
 /// Puts a disk with these bytes, which fails at the calls of these numbers, in the place of a trial disk.
-fn set_disk(
+pub fn set_disk(
     rt: &(impl Abort + AllocGlobal),
     rack: &mut MemoryRack,
     k: u8,
@@ -71,7 +71,13 @@ fn a_failing_disk_ends_the_call(rt: HostRuntime) -> Result<(), Fail> {
         let mut rack = whole_rack(alloc).map_err(failed)?;
         assert!(rt; *k < 64);
         set_disk(&rt, &mut rack, *k, b"", fails).map_err(failed)?;
-        run_over(&rt, &mut rack, &Call::net(PATH.as_bytes(), 64), *status, output)?;
+        run_over(
+            &rt,
+            &mut rack,
+            &Call::net(PATH.as_bytes(), 64),
+            *status,
+            output,
+        )?;
         for other in 0..64 {
             assert!(rt; rack.lend(other).is_some());
         }
