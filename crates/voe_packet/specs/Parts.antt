@@ -4,7 +4,7 @@ use Rattle.std.specs.Borrow.{Bor}
 use Rattle.std.specs.List.{flat_map}
 use Rattle.xml_lexer.specs.Characters.{Text}
 use Rattle.voe_tree.specs.Contents.{attribute_of, children_called, elements_in, is_called, text_of}
-use Rattle.voe_tree.specs.Places.{places}
+use Rattle.voe_tree.specs.Places.{below_coordinates, places}
 use Rattle.voe_tree.specs.Validity.{citations_of}
 use Rattle.voe_tree.specs.declared.element.Element.{Element}
 use Rattle.voe_packet.specs.Words.{cite_named, role_named}
@@ -43,10 +43,6 @@ abbrev pub params_of : Element → List Element
 params_of root = flat_map params_within (children_called root (codes "What"))
 
 -- ---- the position
-
-abbrev pub below_coordinates : List Text → List Text
-below_coordinates path =
-    codes "WhereWhen" ∷ codes "ObsDataLocation" ∷ codes "ObservationLocation" ∷ codes "AstroCoords" ∷ path
 
 abbrev pub with_coordinates : Option Text → Option Text → Option Text → Option Position
 with_coordinates (Some c1) (Some c2) radius = Some (record { c1 = c1; c2 = c2; radius = radius })

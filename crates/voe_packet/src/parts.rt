@@ -3,10 +3,10 @@
 ghost use Rattle.std.specs.Prelude.{◌≡◌, ◌++◌, ◌∷◌, [], IfOk, IsTrue, OnOk, codes, map};
 ghost use Rattle.std.specs.List.{flat_map};
 ghost use Rattle.voe_tree.specs.Contents.{children_called, elements_in};
-ghost use Rattle.voe_tree.specs.Places.{places};
+ghost use Rattle.voe_tree.specs.Places.{below_coordinates, places};
 ghost use Rattle.voe_tree.specs.Validity.{citations_of, meets_V12};
 ghost use Rattle.voe_packet.specs.Params.{param_of};
-ghost use Rattle.voe_packet.specs.Parts.{below_coordinates, citation_of, first, params_in, params_of, position_at, position_in};
+ghost use Rattle.voe_packet.specs.Parts.{citation_of, first, params_in, params_of, position_at, position_in};
 
 use crate::packet::{Citation, Position};
 use crate::param::Param;

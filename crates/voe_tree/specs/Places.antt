@@ -1,5 +1,5 @@
 -- Where a path of names leads.
-use Rattle.std.specs.Prelude.{List, [], ◌∷◌}
+use Rattle.std.specs.Prelude.{List, [], ◌∷◌, codes}
 use Rattle.std.specs.List.{flat_map}
 use Rattle.xml_lexer.specs.Characters.{Text}
 use Rattle.voe_tree.specs.Contents.{children_called}
@@ -9,3 +9,8 @@ use Rattle.voe_tree.specs.declared.element.Element.{Element}
 abbrev pub places : List Text → Element → List Element
 places [] e = e ∷ []
 places (name ∷ names) e = flat_map (places names) (children_called e name)
+
+-- the path from a packet's root to what its position in space and time says: VOEvent 2.0, section 3.4
+abbrev pub below_coordinates : List Text → List Text
+below_coordinates path =
+    codes "WhereWhen" ∷ codes "ObsDataLocation" ∷ codes "ObservationLocation" ∷ codes "AstroCoords" ∷ path

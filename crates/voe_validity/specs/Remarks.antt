@@ -1,20 +1,16 @@
 -- What is odd about a packet without making it invalid: the remarks N01 to N10. Elements and attributes are those in no
 -- namespace, and the text of an element is that of its descendants without the blanks at both ends.
 use Rattle.std.specs.Prelude.{◌&&◌, ◌||◌, ◌==◌, ◌^◌, Bool, false, not, nat_le, List, [], ◌∷◌, Option, Some, None, is_none, codes}
-use Rattle.std.specs.List.{flat_map, list_any}
+use Rattle.std.specs.List.{list_any}
 use Rattle.xml_lexer.specs.Characters.{Text}
-use Rattle.voe_tree.specs.Contents.{attribute_of, child_of, children_called, text_of}
+use Rattle.voe_tree.specs.Contents.{attribute_of, child_of, text_of}
+use Rattle.voe_tree.specs.Places.{below_coordinates, places}
 use Rattle.voe_tree.specs.declared.element.Element.{Element}
 use Rattle.voe_values.specs.declared.decimal.Decimal.{Decimal}
 use Rattle.voe_values.specs.Decimal.{decimal_of}
 use Rattle.voe_time.specs.Stamp.{is_time_text}
 
 -- ---- places
-
--- the elements at the end of a path of names, each a child of the one before, in the order of the document
-abbrev pub places : List Text → Element → List Element
-places [] e = e ∷ []
-places (name ∷ names) e = flat_map (places names) (children_called e name)
 
 -- some element at the end of the path passes the test
 abbrev pub some_at : List Text → (Element → Bool) → Element → Bool
@@ -58,11 +54,6 @@ abbrev pub has_bad_expiry : Element → Bool
 has_bad_expiry e = fails is_time_text (attribute_of e (codes "expires"))
 
 -- ---- the remarks, each a test of the root
-
--- the paths of what a position in space and time says
-abbrev pub below_coordinates : List Text → List Text
-below_coordinates path =
-    codes "WhereWhen" ∷ codes "ObsDataLocation" ∷ codes "ObservationLocation" ∷ codes "AstroCoords" ∷ path
 
 abbrev pub holds_N01 : Element → Bool
 holds_N01 root = some_at (codes "Who" ∷ []) lacks_author root

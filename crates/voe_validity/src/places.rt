@@ -3,7 +3,7 @@
 ghost use Rattle.std.specs.Prelude.{◌≡◌, IfOk, map};
 ghost use Rattle.std.specs.List.{list_any};
 ghost use Rattle.voe_validity.specs.Oddities.{is_odd};
-ghost use Rattle.voe_validity.specs.Remarks.{places};
+ghost use Rattle.voe_tree.specs.Places.{places};
 
 use crate::oddity::Oddity;
 use std::alloc::Global;

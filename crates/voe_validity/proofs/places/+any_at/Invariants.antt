@@ -3,7 +3,7 @@ use Rattle.std.specs.Prelude.{filter, map}
 use Rattle.std.specs.List.{flat_map, list_any}
 use Rattle.voe_tree.specs.Contents.{is_called, elements_in}
 use Rattle.voe_validity.specs.Oddities.{is_odd}
-use Rattle.voe_validity.specs.Remarks.{places}
+use Rattle.voe_tree.specs.Places.{places}
 use Rattle.voe_validity.proofs.places.+any_at.Given as goal
 
 abbrev pub invariant-loop-node : goal.invariant-loop-node
