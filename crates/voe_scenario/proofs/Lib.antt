@@ -16,3 +16,4 @@ pub mod Configured
 pub mod Filled
 pub mod ConfigKept
 pub mod ConfigReads
+pub mod Accepted

@@ -1,11 +1,14 @@
 //! Facts of the definitions, each told by a function that does nothing.
 
-ghost use Rattle.std.specs.Prelude.{◌≡◌, List, Result, ℕ};
+ghost use Rattle.std.specs.Prelude.{◌≡◌, List, Ok, Result, ℕ};
 ghost use Rattle.node_notes.specs.declared.config.Config.{Config};
 ghost use Rattle.voe_scenario.specs.Configs.{IsConfigOf};
 ghost use Rattle.voe_scenario.specs.Lines.{Refusal};
 ghost use Rattle.voe_scenario.specs.Scenarios.{AreAlike, IsScenarioOf};
+ghost use Rattle.voe_scenario.specs.Sound.{IsSound};
 ghost use Rattle.voe_scenario.specs.declared.scenario.Scenario.{Scenario};
+
+use voe_packet::laws::short_drafts_fit;
 
 /// A text is one configuration, or has one first refused line, so that `read_config` gives a configuration exactly
 /// where its text is one.
@@ -18,3 +21,11 @@ pub fn texts_are_one_config()
 pub fn texts_are_one_scenario()
     ensures { (text : List ℕ) (a b : Result Scenario Refusal) → IsScenarioOf text a → IsScenarioOf text b → AreAlike a b }
 {}
+
+/// Every scenario that a text is, whoever reads it, is within the limits, its edges join nodes of their kinds, its events
+/// name only what it has, and each of its nodes may be configured.
+pub fn scenarios_are_sound()
+    ensures { (text : List ℕ) (scenario : Scenario) → IsScenarioOf text (Ok scenario) → IsSound scenario }
+{
+    short_drafts_fit();
+}
