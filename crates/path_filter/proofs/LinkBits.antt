@@ -1,7 +1,7 @@
 -- Sets, bits and numbers, one more at a time.
-use Rattle.std.proofs.Common.{◌≡◌, ℕ, ◌+◌, ◌<◌, zero, suc, Bool, true, false, List, [], ◌∷◌, ◌++◌, length, take, drop, get_or, Some, None, refl, sym, ◌∙◌, ap, subst, append_assoc, add-one, drop-cons, arith}
-use Rattle.std.specs.Prelude.{cond, IsTrue, ◌↔◌, slice_get}
-use Rattle.std.proofs.lemmas.List.{take_more, append-nil}
+use Rattle.std.proofs.Common.{◌≡◌, ℕ, ◌+◌, ◌<◌, suc, Bool, true, false, List, [], ◌∷◌, ◌++◌, length, take, drop, get_or, refl, sym, ◌∙◌, ap, subst, append_assoc, add-one, drop-cons}
+use Rattle.std.specs.Prelude.{cond, IsTrue, ◌↔◌}
+use Rattle.std.proofs.lemmas.List.{take_more}
 use Rattle.voe_tree.specs.declared.element.Element.{Element}
 use Rattle.node_notes.specs.declared.config.LinkConfig.{LinkConfig}
 use Rattle.path_filter.specs.Sets.{AreRead, Filters, SetPasses}

@@ -1,6 +1,6 @@
 -- The links that pass a packet are those that right rules pass it over.
-use Rattle.std.proofs.Common.{◌≡◌, ◌⊎◌, inl, inr, ℕ, ◌+◌, ◌<◌, ◌≤◌, zero, suc, Bool, true, false, List, [], ◌∷◌, length, Some, None, refl, sym, ◌∙◌, ap, subst, arith, add-one}
-use Rattle.std.specs.Prelude.{Option, cond, IsTrue, ◌↔◌, slice_get, nat_le, nat_lt, ◌&&◌, ◌^◌}
+use Rattle.std.proofs.Common.{◌≡◌, inl, inr, ℕ, ◌+◌, ◌<◌, ◌≤◌, zero, suc, Bool, true, false, List, [], ◌∷◌, length, Some, None, refl, sym, ◌∙◌, ap, subst, arith}
+use Rattle.std.specs.Prelude.{cond, IsTrue, ◌↔◌, nat_le, nat_lt, ◌&&◌}
 use Rattle.std.proofs.lemmas.Bool.{le-leb, lt-ltb}
 use Rattle.xml_lexer.specs.Characters.{Text}
 use Rattle.voe_tree.specs.Document.{Spells}
@@ -13,7 +13,7 @@ use Rattle.filter_text.specs.View.{path_of}
 use Rattle.filter_text.specs.Reading.{Reads}
 use Rattle.filter_text.specs.declared.filter.Path.{Path}
 use Rattle.path_filter.specs.Meaning.{Passes}
-use Rattle.path_filter.specs.Sets.{AreRead, BytesPass, Filters, OnePasses, SetPasses}
+use Rattle.path_filter.specs.Sets.{AreRead, Filters, OnePasses, SetPasses}
 use Rattle.path_filter.specs.Links.{AreDecided, AreOf, LinkPasses, PassesLinks, numbers_of}
 use Rattle.path_filter.proofs.LinkBits.{decided_len}
 use Rattle.path_filter.proofs.LinkUnique.{one_path, one_tree}

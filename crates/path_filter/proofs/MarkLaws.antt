@@ -54,6 +54,21 @@ one_marked plan Asked Before Old New Good i y at new old = record {
   );
 }
 
+pub less-or-not : (a b : ℕ) → (a < b) ⊎ (b ≤ a)
+less-or-not a b = grind arith
+
+-- What is asked before the next position is not behind the one before it.
+pub skipped : (Asked : ℕ → Type 0) (n m : ℕ) → ((k : ℕ) → n + 1 ≤ k → k < m → Asked k → ⊥) → (k : ℕ) → k < m → Asked k → k < n + 1
+skipped Asked n m skips k lt asked = elim (less-or-not k (n + 1)) [ inl less ↦ less | inr not ↦ absurd (skips k not lt asked) ]
+
+-- Positions that are not asked are skipped.
+pub skip_marked : (plan : List Stage) (Asked Before Now : ℕ → Type 0) (Good : ℕ → Stage → Type 0) (n m : ℕ) → n ≤ m → ((k : ℕ) → n ≤ k → k < m → Asked k → ⊥)
+    → MarkedBelow n plan Asked Before Now Good → MarkedBelow m plan Asked Before Now Good
+skip_marked plan Asked Before Now Good n m le skips marked = record {
+  seen = λ k x lt there asked. elim (less-or-not k n) [ inl less ↦ marked.seen k x less there asked | inr not ↦ absurd (skips k not lt asked) ];
+  unseen = λ k ge. marked.unseen k (omega (arith, le, ge));
+}
+
 pub all_marked : (plan : List Stage) (Asked Before Now : ℕ → Type 0) (Good : ℕ → Stage → Type 0) (n : ℕ) → length plan ≤ n → MarkedBelow n plan Asked Before Now Good
     → (i : ℕ) (x : Stage) → slice_get plan i ≡ Some x → Asked i → Now i ↔ (Before i ⊎ Good i x)
 all_marked plan Asked Before Now Good n le marked i x at asked = marked.seen i x (omega (arith, within plan i x at)) at asked

@@ -43,8 +43,10 @@ pub fn asked_of_child(
     ensures { (i : ℕ) (x : Stage) → slice_get plan.now i ≡ Some x → Has asked.now i → (Has found.now i → ⊥) → Asks (Has result) child.now i x }
 {
     let mut below = Positions::none();
-    for (i, stage) in plan.iter().enumerate() {
-        ask_one(stage, i, asked, found, child, &mut below);
+    let mut i = asked.next(0, plan.len());
+    while i < plan.len() {
+        ask_one(&plan[i], i, asked, found, child, &mut below);
+        i = asked.next(i + 1, plan.len());
     }
     below
 }
@@ -92,8 +94,10 @@ pub fn add_from_child(
     ensures { (i : ℕ) (x : Stage) → slice_get plan.now i ≡ Some x → Has asked.now i
         → Has found.new i ↔ (Has found.old i ⊎ FromChild (Has below.now) (Has known.now) root.now child.now i x) }
 {
-    for (i, stage) in plan.iter().enumerate() {
-        add_one(stage, i, asked, below, known, root, child, found);
+    let mut i = asked.next(0, plan.len());
+    while i < plan.len() {
+        add_one(&plan[i], i, asked, below, known, root, child, found);
+        i = asked.next(i + 1, plan.len());
     }
 }
 
@@ -116,8 +120,10 @@ pub fn own(plan: &[Stage], asked: &Positions, at: &Element) -> Positions
     ensures { (i : ℕ) (x : Stage) → slice_get plan.now i ≡ Some x → Has asked.now i → Has result i ↔ Owns at.now x }
 {
     let mut found = Positions::none();
-    for (i, stage) in plan.iter().enumerate() {
-        add_own(stage, i, asked, at, &mut found);
+    let mut i = asked.next(0, plan.len());
+    while i < plan.len() {
+        add_own(&plan[i], i, asked, at, &mut found);
+        i = asked.next(i + 1, plan.len());
     }
     found
 }
@@ -127,10 +133,12 @@ pub fn is_done(plan: &[Stage], asked: &Positions, found: &Positions) -> bool
     requires few { length plan.now ≤ 512 }
     ensures { IsTrue result → (i : ℕ) → i < length plan.now → Has asked.now i → Has found.now i }
 {
-    for i in 0..plan.len() {
+    let mut i = asked.next(0, plan.len());
+    while i < plan.len() {
         if asked.has(i) && !found.has(i) {
             return false;
         }
+        i = asked.next(i + 1, plan.len());
     }
     true
 }

@@ -10,7 +10,7 @@ pub struct Positions {
 }
 
 impl Positions {
-    ghost use Rattle.std.specs.Prelude.{◌≡◌, ◌<◌, ℕ, ◌↔◌, ◌⊎◌, IsTrue};
+    ghost use Rattle.std.specs.Prelude.{◌≡◌, ◌<◌, ◌≤◌, ℕ, ◌↔◌, ◌⊎◌, IsTrue};
     ghost use Rattle.path_filter.specs.Positions.{Has};
 
     #[tactic(auto, unfolding(crate::specs::Positions::Has))]
@@ -43,5 +43,24 @@ impl Positions {
         ensures { IsTrue result ↔ Has self.now at }
     {
         (self.words[at / 64] >> (at % 64)) & 1 == 1
+    }
+
+    /// The next position in the set, from this one on; where there is none below `end`, some place from `end` on.
+    #[tactic(auto, unfolding(crate::specs::Positions::Has))]
+    pub fn next(&self, from: usize, end: usize) -> usize
+        requires { end ≤ 576 }
+        ensures forward { from ≤ result }
+        ensures skips { (i : ℕ) → from ≤ i → i < result → Has self.now i → ⊥ }
+    {
+        let mut at = from;
+        while at < end {
+            let word = self.words[at / 64];
+            let rest = word >> (at % 64);
+            if rest != 0 {
+                return at + rest.trailing_zeros() as usize;
+            }
+            at = (at / 64 + 1) * 64;
+        }
+        at
     }
 }

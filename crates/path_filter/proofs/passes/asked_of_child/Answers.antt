@@ -4,7 +4,7 @@ use Rattle.path_filter.specs.Plan.{Asks}
 use Rattle.path_filter.specs.Positions.{Has}
 use Rattle.path_filter.proofs.AskLaws.{asks-more}
 use Rattle.path_filter.proofs.EvaluateSteps.{below-more, read}
-use Rattle.path_filter.proofs.MarkLaws.{small_at, within}
+use Rattle.path_filter.proofs.MarkLaws.{skipped, small_at, within}
 use Rattle.path_filter.proofs.PlaceLaws.{same_some}
 use Rattle.path_filter.proofs.passes.asked_of_child.Goals as goal
 
@@ -14,7 +14,7 @@ ask_one-requires-clause-small c = small_at c.args.plan.now c.loop-i.i c.index-pl
 pub loop-i-preserved : goal.loop-i-preserved
 loop-i-preserved c =
     let here = read c.args.plan.now c.loop-i.i c.index-plan-i.result c.loop-i-test.true c.index-plan-i.is in
-    λ k x lt there asked not_found. elim (below-more k c.loop-i.i lt) [
+    λ k x lt there asked not_found. elim (below-more k c.loop-i.i (skipped (Has c.args.asked.now) c.loop-i.i c.next-i-in-loop-i.result c.next-i-in-loop-i.ensures.skips k lt asked)) [
       | inl same ↦
           (let at = subst (λ n. slice_get c.args.plan.now n ≡ Some x) same there in
           let is = same_some (slice_get c.args.plan.now c.loop-i.i) c.index-plan-i.result x here at in

@@ -1,4 +1,4 @@
-use Rattle.std.proofs.Common.{◌≡◌, Bool, List, take, ◌+◌, sym, subst, ap}
+use Rattle.std.proofs.Common.{Bool, List, take, ◌+◌, sym, subst}
 use Rattle.path_filter.specs.Links.{AreDecided}
 use Rattle.path_filter.proofs.LinkBits.{decided_more}
 use Rattle.path_filter.proofs.links.LinkFilters.decide.Goals as goal

@@ -1,4 +1,4 @@
-use Rattle.std.proofs.Common.{◌≡◌, ◌≤◌, length, ap, arith, ℕ, ◌∙◌, List, Bool}
+use Rattle.std.proofs.Common.{◌≡◌, length, ap, arith, ◌∙◌, List, Bool}
 use Rattle.path_filter.proofs.LinkBits.{decided_len}
 use Rattle.path_filter.proofs.links.LinkFilters.passing.Goals as goal
 

@@ -1,4 +1,4 @@
-use Rattle.std.proofs.Common.{◌≡◌, List, take, ◌+◌, sym, subst, ap}
+use Rattle.std.proofs.Common.{List, take, ◌+◌, sym, subst}
 use Rattle.path_filter.specs.Sets.{Filters}
 use Rattle.path_filter.specs.Links.{AreOf}
 use Rattle.path_filter.proofs.LinkBits.{read_more}
