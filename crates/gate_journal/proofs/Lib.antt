@@ -1,4 +1,5 @@
 pub mod Entries
+pub mod Failures
 pub mod Files
 pub mod Gates
 pub mod OneReading

@@ -5,7 +5,7 @@ ghost use Rattle.std.specs.Option.{option_map};
 ghost use Rattle.voe_disk.specs.Disk.{OneStep, Rose, IsDurable, counted};
 ghost use Rattle.voe_disk.specs.Failing.{passed};
 ghost use Rattle.voe_disk.specs.Runs.{LeavesOnly, Untouched};
-ghost use Rattle.gate_journal.specs.Device.{IsSameDisk};
+ghost use Rattle.gate_journal.specs.Device.{IsSameDisk, FailedWithin};
 ghost use Rattle.gate_journal.specs.Format.{front, kept, Stands, StandsBeforeOrAfter};
 ghost use Rattle.gate_journal.specs.Reading.{IsUnmade, IsRefusal};
 ghost use Rattle.gate_journal.specs.Making.{IsMaking, IsMakingSoFar, IsOther};
@@ -175,9 +175,10 @@ impl<D: Disk> Journal<D> {
         // A crash at any moment leaves a journal with the payload or without it.
         ensures any_moment { self.old.down ≡ None → LeavesOnly D.Disk self.old.disk self.new.disk (StandsBeforeOrAfter self.old.payloads payload.now) }
 
-        // Four device calls, and no others.
+        // Four device calls, and no others: none follows one that fails.
         ensures four { OnOk result (D.failing self.new.disk ≡ option_map passed (option_map passed (option_map passed (option_map passed (D.failing self.old.disk))))) }
         ensures counted { OnOk result (D.arming self.new.disk ≡ counted (counted (counted (counted (D.arming self.old.disk))))) }
+        ensures failed { IsErrOf result JournalFault.DiskFault → self.old.down ≡ None → FailedWithin 4 (D.failing self.old.disk) (D.failing self.new.disk) }
         ensures enough { OnOk result (IfSome (D.arming self.old.disk).calls (λ calls. 4 ≤ calls)) }
         ensures few { IsErrOf result JournalFault.Stopped → self.old.down ≡ None
             → (calls : ℕ) × ((D.arming self.old.disk).calls ≡ Some calls) × (calls < 4) }

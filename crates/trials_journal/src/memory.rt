@@ -199,7 +199,7 @@ fn a_failed_call_is_told_until_the_disk_is_loaded_again(rt: HostRuntime) -> Resu
         (10, (fault, fault, 0)),
         (11, (fault, fault, 1)),
         (12, (Ok(()), fault, 1)),
-        (19, (Ok(()), Ok(()), 2)),
+        (20, (Ok(()), Ok(()), 2)),
     ];
     for (call, outcome) in rows {
         assert_eq!(rt; failed(&rt, call), Ok(outcome), "{call}");

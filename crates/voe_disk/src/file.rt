@@ -9,12 +9,13 @@ use crate::{Disk, DiskFail};
 use std::fs::{File, OpenOptions};
 use std::io;
 use std::os::unix::fs::FileExt;
+use std::path::Path;
 use std::rt::Files;
 use voe_values::{NoMemory, Text};
 
-/// A file as a disk. It is opened at the first call, made where it is missing, and from then on locked against every
-/// other opening of it until the disk is dropped. An opening that fails, or meets a lock, is a `Fault`, and the next
-/// call tries again.
+/// A file as a disk. It is opened at the first call, made where it is missing, its folder is synced, and from then on
+/// it is locked against every other opening of it until the disk is dropped. An opening that fails, or meets a lock, is
+/// a `Fault`, and the next call tries again.
 #[derive(Drop)]
 pub struct FileDisk<R: Files<File = File> + Drop> {
     rt: R,
@@ -69,7 +70,17 @@ fn open_locked<R: Files<File = File>>(rt: &R, path: &str) -> io::Result<File> {
     options.read(true).write(true).create(true);
     let file = options.open(rt, path)?;
     file.try_lock()?;
+    sync_folder(rt, path)?;
     Ok(file)
+}
+
+// A file that was made here outlives a crash only once its folder is on the disk too.
+fn sync_folder<R: Files<File = File>>(rt: &R, path: &str) -> io::Result<()> {
+    let folder = match Path::new(path).parent() {
+        Some(folder) if !folder.as_str().is_empty() => folder.as_str(),
+        _ => ".",
+    };
+    File::open(rt, folder)?.sync_all()
 }
 
 fn size_of(file: &Option<File>) -> io::Result<u64> {

@@ -1,12 +1,14 @@
 use Rattle.std.proofs.Common.{◌≡◌, inl, ℕ, ◌<◌, [], ◌∷◌, ◌++◌, List, length, Some, None, Err, rules, refl, sym, ◌∙◌, ap, subst, arith}
-use Rattle.std.specs.Prelude.{Result}
+use Rattle.std.specs.Prelude.{Option, Result}
 use Rattle.voe_disk.specs.Disk.{Arming}
+use Rattle.voe_disk.specs.Failing.{Failing}
 use Rattle.voe_disk.specs.Runs.{LeavesOnly, Moments}
 use Rattle.voe_disk.specs.declared.fail.DiskFail.{DiskFail}
 use Rattle.voe_disk.specs.declared.fail.DiskFail.TheVariants.{Fault, Stopped as WasStopped}
+use Rattle.gate_journal.specs.Device.{FailedWithin}
 use Rattle.gate_journal.specs.Fault.{fault_of}
 use Rattle.gate_journal.specs.declared.fault.JournalFault.{JournalFault}
-use Rattle.gate_journal.specs.declared.fault.JournalFault.TheVariants.{Stopped}
+use Rattle.gate_journal.specs.declared.fault.JournalFault.TheVariants.{DiskFault, Stopped}
 use Rattle.gate_journal.specs.Format.{kept, Stands, StandsBeforeOrAfter}
 use Rattle.gate_journal.specs.Journal.{JournalView}
 use Rattle.gate_journal.specs.Payloads.{payloads_in}
@@ -77,6 +79,19 @@ returns-in-Err-clause-few g c stop =
     let which : c.in-Err.fail ≡ WasStopped = only_stopped c.in-Err.fail (sym c.from-in-Err.ensures ∙ err_is _ refl stop) in
     let was : c.write_behind.result ≡ Err WasStopped = c.in-Err.is ∙ ap (λ (f : DiskFail). Err f) which in
     subst (λ (a : Arming). (calls : ℕ) × (a.calls ≡ Some calls) × (calls < 4)) c.reserve-2.ensures.arming (c.write_behind.ensures.few was))
+
+only_fault : (fail : DiskFail) → fault_of fail ≡ DiskFault → fail ≡ Fault
+only_fault Fault is = refl
+only_fault WasStopped is = absurd (cc is)
+
+pub returns-in-Err-clause-failed : goal.returns-in-Err-clause-failed
+returns-in-Err-clause-failed g c fault =
+    let d = g.D.Disk in
+    let P : JournalView _ → Type 0 = λ v. v.down ≡ None → FailedWithin 4 (d.failing v.disk) (d.failing c.write_behind.new.disk) in
+    subst P c.self.view_is (λ up.
+    let which : c.in-Err.fail ≡ Fault = only_fault c.in-Err.fail (sym c.from-in-Err.ensures ∙ err_is _ refl fault) in
+    let was : c.write_behind.result ≡ Err Fault = c.in-Err.is ∙ ap (λ (f : DiskFail). Err f) which in
+    subst (λ (o : Option Failing). FailedWithin 4 o (d.failing c.write_behind.new.disk)) c.reserve-2.ensures.failing (c.write_behind.ensures.failed was))
 
 pub returns-in-Err-clause-stopped_image : goal.returns-in-Err-clause-stopped_image
 returns-in-Err-clause-stopped_image g c stop =
