@@ -14,3 +14,4 @@ pub mod EndFound
 pub mod EndReady
 pub mod EndAdding
 pub mod EndReplies
+pub mod Identified

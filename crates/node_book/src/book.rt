@@ -8,8 +8,8 @@ ghost use Rattle.voe_disk.specs.Failing.{passed};
 ghost use Rattle.voe_disk.specs.Runs.{LeavesOnly, Untouched};
 ghost use Rattle.gate_journal.specs.Device.{IsSameDisk};
 ghost use Rattle.net_model.specs.Notes.{knows as knows_among, is_open as is_open_among, to_send, first_from};
-ghost use Rattle.node_notes.specs.Forms.{is_author, is_broker, is_config, is_next};
-ghost use Rattle.node_notes.specs.Held.{packet_held};
+ghost use Rattle.node_notes.specs.Forms.{is_author, is_broker, is_config, is_identifier, is_next};
+ghost use Rattle.node_notes.specs.Held.{identifier_in, packet_held};
 ghost use Rattle.node_notes.specs.Open.{count_open, place_of};
 ghost use Rattle.node_book.specs.Book.{IsSound};
 ghost use Rattle.node_book.specs.Fault.{ComesFromDisk, IsMissing};
@@ -147,10 +147,11 @@ impl<D: Disk> Book<D> {
         self.records.notes.len()
     }
 
-    /// The note of a number, counted from 0; nothing exactly past the last.
+    /// The note of a number, counted from 0; nothing exactly past the last. Its identifier is that of a packet, in UTF-8.
     pub fn note(&self, at: usize) -> Option<&Note>
         ensures note { option_copied result ≡ slice_get self.now.notes at }
         ensures within { IsSome result ↔ (at < length self.now.notes) }
+        ensures identifier { IfSome result (λ note. is_identifier (identifier_in note.now) ≡ true) }
     {
         self.records.notes.get(at)
     }
