@@ -6,10 +6,12 @@ ghost use Rattle.voe_tree.specs.Validity.{is_valid};
 ghost use Rattle.voe_validity.specs.RemarkList.{number_if_held, remarks_of};
 
 use crate::remark::Remark;
-use crate::remark_list::Remarks;
 use std::alloc::Global;
 use voe_tree::{Element, Tree};
 use voe_values::{Listing, NoMemory};
+
+/// The numbers of the remarks on a packet, N01 to N10 as 1 to 10.
+pub type Remarks = Listing<u8>;
 
 macro_rules! remarks_named {
     ($($remark:ident),+ $(,)?) => { [$(Remark::$remark),+] };
@@ -36,12 +38,11 @@ pub fn remarks(alloc: Global, tree: &Tree) -> Result<Remarks, NoMemory>
         Param,
         Expires,
     ];
-    let numbers = numbers_held(alloc, root, &all)?;
-    Ok(Remarks::of(numbers))
+    numbers_held(alloc, root, &all)
 }
 
 /// The numbers of those remarks that hold, in the order of the remarks.
-fn numbers_held(alloc: Global, root: &Element, remarks: &[Remark]) -> Result<Listing<u8>, NoMemory>
+fn numbers_held(alloc: Global, root: &Element, remarks: &[Remark]) -> Result<Remarks, NoMemory>
     ensures { IfOk result (λ numbers. numbers ≡ flat_map (number_if_held root.now) remarks.now) }
 {
     let mut numbers = Listing::new(alloc);

@@ -10,12 +10,10 @@ mod judgement;
 mod oddity;
 mod places;
 mod remark;
-mod remark_list;
 mod validity;
 
-pub use gather::remarks;
+pub use gather::{Remarks, remarks};
 pub use judgement::{
     Judging, fault_number, good_packets_are_named, judge, packets_are_judged_once,
 };
-pub use remark_list::Remarks;
 pub use validity::valid;
