@@ -7,3 +7,7 @@ pub mod Judged
 pub mod Choices
 pub mod Rightness
 pub mod Once
+pub mod Origins
+pub mod Counted
+pub mod Sizes
+pub mod Room
