@@ -14,6 +14,7 @@ use Rattle.node_notes.specs.declared.config.Config.{Config}
 use Rattle.node_notes.specs.declared.config.LinkConfig.{LinkConfig}
 use Rattle.path_filter.specs.Sets.{BytesPass, Filters}
 use Rattle.path_filter.specs.Links.{PassesLinks}
+use Rattle.node_book.specs.Ends.{EndView, after_step, with_sessions}
 use Rattle.node_book.specs.EndSteps.{Fate, HasRoomOf, answered, is_down, lacked_memory}
 use Rattle.broker_end.specs.declared.event.BrokerEvent.{BrokerEvent}
 use Rattle.broker_end.specs.declared.event.BrokerEvent.TheVariants.{Packet, Join, Next, Acked, Live}
@@ -117,7 +118,7 @@ abbrev pub IsLiveAnswer : List Note → ℕ → Filters → BrokerStep → Type 
 IsLiveAnswer notes after filters (b.Packet at identifier packet) =
     (after ≤ at) × (links : List ℕ) × (slice_get notes at ≡ Some (Accept identifier links packet)) × BytesPass filters packet × NoneIsShown notes filters after at
 IsLiveAnswer notes after filters b.Nothing = NoneIsShown notes filters after (length notes)
-IsLiveAnswer notes after filters (b.Down faults stopped) = Unit {0}
+IsLiveAnswer notes after filters (b.Down faults stopped) = ⊥
 IsLiveAnswer notes after filters b.NoMemory = Unit {0}
 IsLiveAnswer notes after filters (b.Answer verdict) = ⊥
 IsLiveAnswer notes after filters (b.Joined link session) = ⊥
@@ -134,6 +135,14 @@ IsPlain notes (Packet from packet) answer = Unit {0}
 IsPlain notes (Join name) answer = Unit {0}
 IsPlain notes (Next link session after) answer = Unit {0}
 IsPlain notes (Acked link session identifier) answer = Unit {0}
+
+-- What only asks leaves all as it was, whatever it is answered: a step more is counted, and `Join` may begin a session.
+abbrev pub LeavesAll : {D : Type 0} → EndView D → EndView D → BrokerEvent → Type 0
+LeavesAll old new (Packet from packet) = Unit {0}
+LeavesAll old new (Join name) = new ≡ with_sessions (after_step old) new.sessions
+LeavesAll old new (Next link session after) = new ≡ after_step old
+LeavesAll old new (Acked link session identifier) = Unit {0}
+LeavesAll old new (Live after filters) = new ≡ after_step old
 
 -- a packet that the note accepts has few enough bytes to be read
 abbrev pub IsShort : Note → Type 0

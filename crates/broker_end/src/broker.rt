@@ -45,7 +45,7 @@ impl<D: Disk> BrokerEnd<D> {
     ghost use Rattle.node_book.specs.Ends.{IsSound, after_step, book_of, is_stopped, one_more};
     ghost use Rattle.node_book.specs.EndMaking.{IsMade, IsNotMade, IsLoaded, IsNotLoaded};
     ghost use Rattle.node_book.specs.EndSteps.{Happens, IsUnchanged, lacked_memory};
-    ghost use Rattle.broker_end.specs.Broker.{AreRightFor, HasRules, IsEvent, IsPlain, fate_of, outcome_of, sessions_after};
+    ghost use Rattle.broker_end.specs.Broker.{AreRightFor, HasRules, IsEvent, IsPlain, LeavesAll, fate_of, outcome_of, sessions_after};
 
     /// A broker on a disk that has no journal, or one with no payload; no session has begun. An `Err` hands the disk
     /// back, as `Book::make` does.
@@ -139,6 +139,7 @@ impl<D: Disk> BrokerEnd<D> {
         // What an end that is up does, by any rules that are right for it and the event; and there are such rules.
         ensures happens { self.old.down ≡ None → (rules : NodeRules) (shows : List ℕ → Bool) → AreRightFor self.old.config self.old.notes event rules shows
             → Happens D.Disk self.old self.new (outcome_of rules shows self.old.config self.old.notes self.old.sessions event) result (fate_of result) }
+        ensures asks { self.old.down ≡ None → LeavesAll self.old self.new event }
         ensures plain { self.old.down ≡ None → IsPlain self.old.notes event result }
         ensures rules { self.old.down ≡ None → (fate_of result ≡ lacked_memory) ⊎ HasRules self.old.config self.old.notes event }
         ensures no_memory { fate_of result ≡ lacked_memory → IsUnchanged D.Disk self.old self.new × (self.new.sessions ≡ self.old.sessions) }
