@@ -14,9 +14,9 @@ pub record HasCause {T : Type 0} (before now : ℕ) (result : Result T EndFault)
   pub later : before ≤ now
   pub fault : IfErr result (λ fault. fault ≡ Disk → Rose before now)
 
--- the count of this number has risen
+-- the count of this number stands in both, and has risen
 abbrev pub RoseAt : ℕ → List ℕ → List ℕ → Type 0
-RoseAt n before now = (old new : ℕ) → slice_get before n ≡ Some old → slice_get now n ≡ Some new → Rose old new
+RoseAt n before now = (old : ℕ) × (new : ℕ) × (slice_get before n ≡ Some old) × (slice_get now n ≡ Some new) × Rose old new
 
 -- none of these counts falls
 pub record NoneFell (before now : List ℕ) : Type 0 where

@@ -1,9 +1,9 @@
 -- A network that was run is the run of its scenario.
-use Rattle.std.proofs.Common.{◌≡◌, ℕ, ◌<◌, false, List, length, slice_get, map, Result, Ok, Err, Some, None, inl, inr, sym, ◌∙◌, ap, subst, arith, zero, suc, [], ◌∷◌}
+use Rattle.std.proofs.Common.{◌≡◌, ℕ, ◌<◌, false, List, length, slice_get, map, Result, Ok, Err, Some, None, inl, inr, refl, sym, ◌∙◌, ap, subst, arith, zero, suc, [], ◌∷◌}
 use Rattle.std.proofs.lemmas.List.{length-map}
 use Rattle.std.specs.Prelude.{IfErr, IfOk, OnOk}
 use Rattle.std.specs.List.{All}
-use Rattle.net_machine.specs.Counts.{RoseAt}
+use Rattle.net_machine.specs.Counts.{Rose, RoseAt}
 use Rattle.net_machine.specs.Ends.{AllPackets, IsPacket}
 use Rattle.net_machine.specs.Parts.{AreRight}
 use Rattle.net_machine.specs.Report.{report_of}
@@ -101,37 +101,36 @@ ran disk scenario old new first last (Ok outcome) right begins steps count keep 
 
 -- ---- why nothing was run
 
--- the count at this place
-count_at : {T : Type 0} (count : T → ℕ) (xs : List T) (n : ℕ) (x : T) → slice_get xs n ≡ Some x → slice_get (map count xs) n ≡ Some (count x)
-count_at count [] n x is = absurd (let wrong : None ≡ Some x = is in cc)
-count_at count (y ∷ ys) zero x is = let same : y ≡ x = cc in ap (λ (z : _). Some (count z)) same
-count_at count (y ∷ ys) (suc n) x is = count_at count ys n x is
+-- what is counted at this place
+counted : {T : Type 0} (count : T → ℕ) (xs : List T) (n c : ℕ) → slice_get (map count xs) n ≡ Some c → (x : T) × (slice_get xs n ≡ Some x) × (count x ≡ c)
+counted count [] n c is = absurd (let wrong : None ≡ Some c = is in cc)
+counted count (x ∷ xs) zero c is = let same : count x ≡ c = cc in (x, refl, same)
+counted count (x ∷ xs) (suc n) c is = counted count xs n c is
 
 -- a count that rose is a disk's
-failed_at : {T : Type 0} (disk : Ghosts T) (old new : List T) (n : ℕ) → length new ≡ length old → n < length old → RoseAt n (map disk.faults old) (map disk.faults new) → HasFailed disk old new n
-failed_at disk old new n count below rose =
-    let was = get_there old n below in
-    let now = get_there new n (omega arith) in
+failed_at : {T : Type 0} (disk : Ghosts T) (old new : List T) (n : ℕ) → RoseAt n (map disk.faults old) (map disk.faults new) → HasFailed disk old new n
+failed_at disk old new n (before, after, there, back, rose) =
+    let was = counted disk.faults old n before there in
+    let now = counted disk.faults new n after back in
     record {
       was = was.0;
       now = now.0;
       there = was.1;
       back = now.1;
-      rose = rose (disk.faults was.0) (disk.faults now.0) (count_at disk.faults old n was.0 was.1) (count_at disk.faults new n now.0 now.1);
+      rose = subst (λ (c : ℕ). Rose c (disk.faults now.0)) (sym was.2) (subst (λ (c : ℕ). Rose before c) (sym now.2) rose);
     }
 
-hindered_run : {T : Type 0} (disk : Ghosts T) (old new : List T) (before now : List ℕ) (hindrance : Hindrance) → length new ≡ length old → before ≡ map disk.faults old → map disk.faults new ≡ now
+hindered_run : {T : Type 0} (disk : Ghosts T) (old new : List T) (before now : List ℕ) (hindrance : Hindrance) → before ≡ map disk.faults old → map disk.faults new ≡ now
     → IsHinderedStep before now hindrance → IsHinderedRun disk old new hindrance
-hindered_run disk old new before now ReadFault count was is step = step
-hindered_run disk old new before now DiskFault count was is (n, below, rose) =
-    let counts : length before ≡ length old = ap length was ∙ length-map old disk.faults in
-    (n, failed_at disk old new n count (omega arith) (subst (λ (l : List ℕ). RoseAt n (map disk.faults old) l) (sym is) (subst (λ (l : List ℕ). RoseAt n l now) was rose)))
-hindered_run disk old new before now NoMemory count was is step = tt
+hindered_run disk old new before now ReadFault was is step = step
+hindered_run disk old new before now DiskFault was is (n, rose) =
+    (n, failed_at disk old new n (subst (λ (l : List ℕ). RoseAt n (map disk.faults old) l) (sym is) (subst (λ (l : List ℕ). RoseAt n l now) was rose)))
+hindered_run disk old new before now NoMemory was is step = tt
 
-pub hindered_where : {T : Type 0} (disk : Ghosts T) (old new : List T) (before now : List ℕ) (result : Result Outcome Hindrance) → length new ≡ length old → before ≡ map disk.faults old
+pub hindered_where : {T : Type 0} (disk : Ghosts T) (old new : List T) (before now : List ℕ) (result : Result Outcome Hindrance) → before ≡ map disk.faults old
     → map disk.faults new ≡ now → IfErr result (λ hindrance. IsHinderedStep before now hindrance) → IfErr result (λ hindrance. IsHinderedRun disk old new hindrance)
-hindered_where disk old new before now (Ok outcome) count was is step = tt
-hindered_where disk old new before now (Err hindrance) count was is step = hindered_run disk old new before now hindrance count was is step
+hindered_where disk old new before now (Ok outcome) was is step = tt
+hindered_where disk old new before now (Err hindrance) was is step = hindered_run disk old new before now hindrance was is step
 
 -- why the network was not made
 hindered_start : {T : Type 0} (disk : Ghosts T) (old new : List T) (fault : NetFault) (hindrance : Hindrance) → Explains disk old new fault → Hinders fault hindrance → IsHinderedRun disk old new hindrance

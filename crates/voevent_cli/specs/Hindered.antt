@@ -1,5 +1,5 @@
 -- Why a network was not run.
-use Rattle.std.specs.Prelude.{◌≡◌, ℕ, ◌<◌, List, length}
+use Rattle.std.specs.Prelude.{◌≡◌, ℕ, List}
 use Rattle.net_machine.specs.Counts.{RoseAt}
 use Rattle.voe_disk.specs.declared.disk.Disk.{Ghosts}
 use Rattle.voe_net.specs.Starting.{HasFailed}
@@ -17,7 +17,7 @@ IsHinderedRun disk old new NoMemory = Unit {0}
 -- the count of faults of one of the nodes has risen, or there was no memory
 abbrev pub IsHinderedStep : List ℕ → List ℕ → Hindrance → Type 0
 IsHinderedStep before now ReadFault = ⊥
-IsHinderedStep before now DiskFault = (n : ℕ) × (n < length before) × RoseAt n before now
+IsHinderedStep before now DiskFault = (n : ℕ) × RoseAt n before now
 IsHinderedStep before now NoMemory = Unit {0}
 
 -- what the network's fault is for the program

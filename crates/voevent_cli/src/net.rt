@@ -40,14 +40,12 @@ fn refuse(alloc: Global, fault: NetFault) -> Result<Outcome, Hindrance>
     }
 }
 
-/// Steps a network of so many nodes through all events, and makes its report.
+/// Steps a network through all events, and makes its report.
 fn report_of_run<D: CrashDisk + Drop>(
     network: &mut Network<'_, D>,
     events: &[Event],
-    nodes: usize,
 ) -> Result<Outcome, Hindrance>
-    requires works { network.old.failed ≡ false }
-    requires nodes { nodes ≡ length network.old.faults }
+    requires { network.old.failed ≡ false }
     ensures works { OnOk result (network.new.failed ≡ false) }
     ensures fixed { network.new.graph ≡ network.old.graph }
     ensures configs { OnOk result (network.new.configs ≡ network.old.configs) }
@@ -62,9 +60,9 @@ fn report_of_run<D: CrashDisk + Drop>(
             status: Status::Done,
             output: network.report()?,
         }),
-        // The contract below doesn't say that the node is one of the network's.
-        Err(NetFault::Disk { node }) if usize::from(node) < nodes => Err(Hindrance::DiskFault),
-        Err(_) => Err(Hindrance::NoMemory),
+        Err(NetFault::AlreadyMade { .. }) => unreachable!(),
+        Err(NetFault::Disk { .. }) => Err(Hindrance::DiskFault),
+        Err(NetFault::NoMemory) => Err(Hindrance::NoMemory),
     }
 }
 
@@ -85,8 +83,7 @@ fn run_on<D: CrashDisk + Drop>(
 {
     match Network::new(alloc, &scenario.graph, scenario.packets.as_slice(), disks) {
         Ok(mut network) => {
-            let nodes = scenario.graph.nodes.len();
-            let result = report_of_run(&mut network, scenario.events.as_slice(), nodes);
+            let result = report_of_run(&mut network, scenario.events.as_slice());
             (network.into_disks(), result)
         }
         Err((disks, fault)) => (disks, refuse(alloc, fault)),

@@ -37,7 +37,6 @@ returns-in-Ok-clause-failed g c =
     let new = c.in-Ok.ensures in
     let stepped = c.report_of_run-result.ensures in
     hindered_where g.D.Disk c.args.disks c.into_disks.result c.in-Ok.network.faults c.report_of_run-result.new.network.faults c.report_of_run-result.result
-    (omega (arith, c.into_disks.ensures.number, stepped.counts.same, ap length new.counts, length-map c.args.disks g.D.Disk.faults))
     new.counts c.into_disks.ensures.counts stepped.failed
 
 pub returns-in-Ok-clause-count : goal.returns-in-Ok-clause-count
