@@ -51,7 +51,7 @@ impl<'a, D: CrashDisk> Model for Network<'a, D> {
     ghost invariant = { λ n. IsNetwork n.machine n.room.items (vec_capacity n.room) };
 }
 
-impl<'a, D: CrashDisk + Drop> Network<'a, D> {
+impl<'a, D: CrashDisk> Network<'a, D> {
     ghost use Rattle.voe_net.specs.Faults.{IsCaused};
     ghost use Rattle.voe_net.specs.Networks.{AllKeep, IsEndOf, IsUpAs, TellsCrashes};
     ghost use Rattle.voe_net.specs.Right.{IsRight};

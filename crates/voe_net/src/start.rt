@@ -19,7 +19,7 @@ use voe_scenario::Graph;
 use voe_values::{Bytes, Listing, NoMemory};
 
 /// Makes the node of this number on a blank disk.
-fn make_node<D: CrashDisk + Drop>(
+fn make_node<D: CrashDisk>(
     alloc: Global,
     graph: &Graph,
     node: u8,
@@ -46,7 +46,7 @@ fn make_node<D: CrashDisk + Drop>(
 }
 
 /// Makes a node on each of these disks, which lie in reverse order, up to the first that can't be made.
-fn fill_seats<D: CrashDisk + Drop>(
+fn fill_seats<D: CrashDisk>(
     alloc: Global,
     graph: &Graph,
     disks: &mut Vec<D>,
@@ -80,7 +80,7 @@ fn fill_seats<D: CrashDisk + Drop>(
 }
 
 /// Makes a node on each of these disks. After an `Err` the disks lie there again.
-fn make_seats<D: CrashDisk + Drop>(
+fn make_seats<D: CrashDisk>(
     alloc: Global,
     graph: &Graph,
     disks: &mut Vec<D>,
@@ -111,7 +111,7 @@ fn make_seats<D: CrashDisk + Drop>(
 }
 
 /// The network at its beginning, on disks that were looked at. After an `Err` the disks lie there again.
-fn make_machine<'a, D: CrashDisk + Drop>(
+fn make_machine<'a, D: CrashDisk>(
     alloc: Global,
     graph: &Graph,
     packets: &'a [Bytes],
@@ -143,7 +143,7 @@ fn make_machine<'a, D: CrashDisk + Drop>(
 
 /// The network at its beginning. All disks are looked at before the first node is made. After an `Err` the disks lie there
 /// again.
-pub fn start<'a, D: CrashDisk + Drop>(
+pub fn start<'a, D: CrashDisk>(
     alloc: Global,
     graph: &Graph,
     packets: &'a [Bytes],

@@ -41,7 +41,7 @@ fn refuse(alloc: Global, fault: NetFault) -> Result<Outcome, Hindrance>
 }
 
 /// Steps a network through all events, and makes its report.
-fn report_of_run<D: CrashDisk + Drop>(
+fn report_of_run<D: CrashDisk>(
     network: &mut Network<'_, D>,
     events: &[Event],
 ) -> Result<Outcome, Hindrance>
@@ -67,7 +67,7 @@ fn report_of_run<D: CrashDisk + Drop>(
 }
 
 /// Runs a scenario over disks, one for each node, which are handed back in their order.
-fn run_on<D: CrashDisk + Drop>(
+fn run_on<D: CrashDisk>(
     alloc: Global,
     scenario: &Scenario,
     disks: Disks<D>,
@@ -92,8 +92,6 @@ fn run_on<D: CrashDisk + Drop>(
 
 /// Runs a scenario over the first trial disks of a rack, one for each node, and puts them back.
 fn run_in<R: Rack>(alloc: Global, scenario: &Scenario, rack: &mut R) -> Result<Outcome, Hindrance>
-where
-    R::Trial: Drop,
     requires sound { IsSound scenario.now }
     requires right { ((rules : Rules) → AreRightFor scenario.now rules → ⊥) → ⊥ }
     requires whole { IsWhole (disks (λ k. R.trial rack.old k) (R.real rack.old)) }
@@ -116,8 +114,6 @@ pub(crate) fn answer_of_net<R: Rack>(
     input: &[u8],
     rack: &mut R,
 ) -> Result<Outcome, Hindrance>
-where
-    R::Trial: Drop,
     requires input { length input.now ≤ 33554432 }
     requires whole { IsWhole (disks (λ k. R.trial rack.old k) (R.real rack.old)) }
     ensures acted { (words : List (List ℕ)) → Acted R.Trial.Disk R.Real.Disk words Command.Net input.now

@@ -49,8 +49,6 @@ fn answer_of<R: Rack>(
     input: &[u8],
     rack: &mut R,
 ) -> Result<Outcome, Hindrance>
-where
-    R::Trial: Drop,
     requires other { command ≡ Command.Match → ⊥ }
     requires input { length input.now ≤ limit_of command }
     requires whole { IsWhole (disks (λ k. R.trial rack.old k) (R.real rack.old)) }
@@ -87,8 +85,6 @@ fn prepare_command<S: Source, R: Rack>(
     source: &mut S,
     rack: &mut R,
 ) -> Result<Outcome, Hindrance>
-where
-    R::Trial: Drop,
     requires asked { command_of words.now ≡ Some command }
     requires other { command ≡ Command.Match → ⊥ }
     requires whole { IsWhole (disks (λ k. R.trial rack.old k) (R.real rack.old)) }
@@ -150,8 +146,6 @@ pub(crate) fn prepare<S: Source, R: Rack>(
     source: &mut S,
     rack: &mut R,
 ) -> Result<Outcome, Hindrance>
-where
-    R::Trial: Drop,
     requires whole { IsWhole (disks (λ k. R.trial rack.old k) (R.real rack.old)) }
     ensures prepares { Prepares R.Trial.Disk R.Real.Disk words.now (S.left source.old) (S.left source.new) (S.fault_count source.old) (S.fault_count source.new)
         (disks (λ k. R.trial rack.old k) (R.real rack.old)) (disks (λ k. R.trial rack.new k) (R.real rack.new)) result }

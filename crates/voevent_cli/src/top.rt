@@ -22,8 +22,6 @@ fn finish<S: Source, K: Sink, R: Rack>(
     sink: &mut K,
     rack: &mut R,
 ) -> Status
-where
-    R::Trial: Drop,
     requires whole { IsWhole (disks (λ k. R.trial rack.old k) (R.real rack.old)) }
     ensures ends { let before = moment (S.left source.old) (S.fault_count source.old) (K.held sink.old) (K.fault_count sink.old) (disks (λ k. R.trial rack.old k) (R.real rack.old)) in
         let after = moment (S.left source.new) (S.fault_count source.new) (K.held sink.new) (K.fault_count sink.new) (disks (λ k. R.trial rack.new k) (R.real rack.new)) in
@@ -56,8 +54,6 @@ pub fn offline<S: Source, K: Sink, R: Rack>(
     sink: &mut K,
     rack: &mut R,
 ) -> u8
-where
-    R::Trial: Drop,
     requires whole { IsWhole (disks (λ k. R.trial rack.old k) (R.real rack.old)) }
 
     // For all words, sources, sinks and racks: which status, how much is taken from the source, what is put on the sink, and
