@@ -205,7 +205,7 @@ module _ {D : Type 0} (disk : Ghosts D) (old new : EndView D) where
 abbrev net_view : Config → List Note → List ℕ → net.EndView
 net_view config notes sessions = record { config = config; notes = notes; sessions = sessions }
 
-get_set : (xs : List ℕ) (n x : ℕ) → n < length xs → slice_get (slice_set xs n x) n ≡ Some x
+pub get_set : (xs : List ℕ) (n x : ℕ) → n < length xs → slice_get (slice_set xs n x) n ≡ Some x
 get_set [] n x low = absurd (omega (arith, low))
 get_set (y ∷ ys) zero x low = refl
 get_set (y ∷ ys) (suc n) x low = get_set ys n x (omega (arith, low))

@@ -1,14 +1,11 @@
 -- The first sessions of a broker's links.
-use Rattle.std.proofs.Common.{◌≡◌, ◌⊎◌, inl, inr, ℕ, ◌+◌, ◌<◌, ◌≤◌, zero, suc, Bool, true, false, List, [], ◌∷◌, length, map, Some, None, refl, sym, ◌∙◌, ap, subst, arith}
-use Rattle.std.specs.Option.{option_map}
-use Rattle.std.specs.Prelude.{Option, cond, slice_get, slice_set, unwrap_or}
-use Rattle.std.specs.Str.{bytes_eq}
-use Rattle.std.proofs.lemmas.Slice.Eq.{bytes_eq-Decides}
-use Rattle.std.proofs.lemmas.Option.{slice_get_within, slice_get-get_or, slice_get-map, get_or_from_slice_get}
-use Rattle.std.proofs.lemmas.List.{append-nil, get_or-set_same, get_or-set_other, length-map, length-set}
+use Rattle.std.proofs.Common.{◌≡◌, ◌⊎◌, inl, inr, ℕ, ◌+◌, ◌<◌, ◌≤◌, zero, suc, true, false, List, [], ◌∷◌, length, map, Some, None, refl, sym, ◌∙◌, ap, subst, arith}
+use Rattle.std.specs.Prelude.{Option, slice_get, slice_set, unwrap_or}
+use Rattle.std.proofs.lemmas.Option.{slice_get_within, slice_get-get_or, get_or_from_slice_get}
+use Rattle.std.proofs.lemmas.List.{append-nil, get_or-set_other, length-map, length-set}
 use Rattle.voe_disk.specs.declared.disk.Disk.{Ghosts}
 use Rattle.net_model.specs.Rules.{NodeRules}
-use Rattle.net_model.specs.Steps.{broker_join, broker_joins, join_link, next_session, place_of_name, says}
+use Rattle.net_model.specs.Steps.{broker_join, broker_joins, join_link, next_session, says}
 use Rattle.net_model.specs.declared.step.Judged.TheVariants.{BadTree}
 use Rattle.net_model.specs.declared.note.Note.{Note}
 use Rattle.node_notes.specs.declared.config.LinkConfig.{LinkConfig}
@@ -17,55 +14,19 @@ use Rattle.node_book.specs.Ends.{EndView}
 use Rattle.node_book.specs.EndSteps.{Fate, Happens, answered, is_down, lacked_memory}
 use Rattle.voe_net.specs.Nodes.{AreDistinct, names_of}
 use Rattle.voe_net.specs.Sessions.{IsJoined}
-
-same_name : (name own : List ℕ) → name ≡ own → bytes_eq name own ≡ true
-same_name name own e = (bytes_eq-Decides name own).1 e
-
-other_name : (name own : List ℕ) → (name ≡ own → ⊥) → bytes_eq name own ≡ false
-other_name name own other = decided (bytes_eq name own) (λ is. other ((bytes_eq-Decides name own).0 is))
-  where
-    decided : (b : Bool) → (b ≡ true → ⊥) → b ≡ false
-    decided true = λ no. absurd (no refl)
-    decided false = λ no. refl
-
-tail_distinct : (own : List ℕ) (names : List (List ℕ)) → AreDistinct (own ∷ names) → AreDistinct names
-tail_distinct own names distinct m n name one two = let same : suc m ≡ suc n = distinct (suc m) (suc n) name one two in cc
-
--- names that differ are found where they stand
-place_at : (names : List (List ℕ)) (name : List ℕ) (at base : ℕ) → AreDistinct names → slice_get names at ≡ Some name → place_of_name names name base ≡ Some (base + at)
-place_at [] name at base distinct found = absurd (cc)
-place_at (own ∷ names) name zero base distinct found =
-    let same : name ≡ own = cc in
-    let here : base ≡ base + 0 = omega arith in
-    ap (λ (b : Bool). cond b (Some base) (place_of_name names name (base + 1))) (same_name name own same) ∙ ap (λ (n : ℕ). Some n) here
-place_at (own ∷ names) name (suc at) base distinct found =
-    let other : name ≡ own → ⊥ = λ same. (
-    let here : Some own ≡ Some name = ap (λ (n : List ℕ). Some n) (sym same) in
-    let bad : zero ≡ suc at = distinct zero (suc at) name here found in
-    cc) in
-    let next : base + 1 + at ≡ base + suc at = omega arith in
-    ap (λ (b : Bool). cond b (Some base) (place_of_name names name (base + 1))) (other_name name own other)
-    ∙ (place_at names name at (base + 1) (tail_distinct own names distinct) found ∙ ap (λ (n : ℕ). Some n) next)
+use Rattle.voe_net.proofs.Asked.{get_set, name_at, place_is}
 
 -- a session of the link of this number begins
 pub joins_at : (links : List LinkConfig) (notes : List Note) (sessions : List ℕ) (at : ℕ) (link : LinkConfig) → AreDistinct (names_of links) → slice_get links at ≡ Some link
     → (broker_join (names_of links) notes sessions link.name).sessions ≡ join_link sessions at
 joins_at links notes sessions at link distinct found =
-    let its : slice_get (names_of links) at ≡ Some link.name = slice_get-map (λ (k : LinkConfig). k.name) links at ∙ ap (option_map (λ (k : LinkConfig). k.name)) found in
-    let here : 0 + at ≡ at = omega arith in
-    ap (λ (o : Option ℕ). (broker_joins notes sessions o).sessions) (place_at (names_of links) link.name at 0 distinct its ∙ ap (λ (n : ℕ). Some n) here)
+    ap (λ (o : Option ℕ). (broker_joins notes sessions o).sessions) (place_is (names_of links) link.name at (name_at links at link found) distinct)
 
 -- the links below this number are in their first session, and no session of the others has begun
 pub record IsBegunBelow {D : Type 0} (end : EndView D) (count : ℕ) : Type 0 where
   pub each : length end.sessions ≡ length end.config.links
   pub first : (link : ℕ) → link < count → slice_get end.sessions link ≡ Some 1
   pub rest : (link : ℕ) → count ≤ link → link < length end.config.links → slice_get end.sessions link ≡ Some 0
-
-get_set_same : (xs : List ℕ) (at v : ℕ) → at < length xs → slice_get (slice_set xs at v) at ≡ Some v
-get_set_same xs at v low =
-    let sized : length (slice_set xs at v) ≡ length xs = length-set xs at v in
-    let within : at < length (slice_set xs at v) = omega (arith, low, sized) in
-    slice_get-get_or (slice_set xs at v) at 0 within ∙ ap (λ (n : ℕ). Some n) (get_or-set_same xs at v 0 low)
 
 get_set_other : (xs : List ℕ) (at other v x : ℕ) → (other ≡ at → ⊥) → slice_get xs other ≡ Some x → slice_get (slice_set xs at v) other ≡ Some x
 get_set_other xs at other v x differ is =
@@ -88,7 +49,7 @@ module _ {D : Type 0} (old new : EndView D) (count : ℕ) (begun : IsBegunBelow 
   first_more : (link : ℕ) → link < count + 1 → (link ≡ count) ⊎ (link < count) → slice_get new.sessions link ≡ Some 1
   first_more link less (inl here) =
       let within : count < length old.sessions = omega (arith, low, begun.each) in
-      let its : slice_get new.sessions count ≡ Some 1 = ap (λ (l : List ℕ). slice_get l count) joined_is ∙ get_set_same old.sessions count 1 within in
+      let its : slice_get new.sessions count ≡ Some 1 = ap (λ (l : List ℕ). slice_get l count) joined_is ∙ get_set old.sessions count 1 within in
       subst (λ (n : ℕ). slice_get new.sessions n ≡ Some 1) (sym here) its
   first_more link less (inr before) = kept_other link 1 (λ same. omega (arith, before, same)) (begun.first link before)
 
