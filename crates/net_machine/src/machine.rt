@@ -25,7 +25,7 @@ use crate::summary::{Summary, sum_up};
 use net_model::{Event, Graph};
 use std::alloc::Global;
 use std::marker::Model;
-use voe_values::{Bytes, Listing, NoMemory};
+use voe_values::{Bytes, Listing, NoMemory, Text};
 
 /// A network of ends over a graph, with the packets that its authors may write, stepped an event at a time. After a
 /// refused event its ends are only to be taken back.
@@ -126,7 +126,7 @@ impl<'a, N: NetEnd> Machine<'a, N> {
     }
 
     /// The report of all nodes, in order: of each a line, and a line for each identifier that it holds.
-    pub fn report(&self) -> Result<Bytes, NoMemory>
+    pub fn report(&self) -> Result<Text, NoMemory>
         requires { self.now.failed ≡ false }
         ensures { IfOk result (λ text. text ≡ report_of self.now.graph (state_of (moment_of N.view self.now.parts))) }
     {

@@ -1,11 +1,13 @@
 //! What a node holds.
 
-ghost use Rattle.std.specs.Prelude.{◌≡◌, ◌≤◌, ℕ, List, IfOk, length, slice_get};
+ghost use Rattle.std.specs.Prelude.{◌≡◌, ◌≤◌, ℕ, List, IfOk, IfSome, length, slice_get, true};
 ghost use Rattle.std.specs.Option.{option_copied, option_map};
 ghost use Rattle.net_model.specs.Notes.{knows as knows_among};
 ghost use Rattle.net_model.specs.Laws.{IsIn};
 ghost use Rattle.net_model.specs.Rules.{NodeRules};
 ghost use Rattle.net_model.specs.Runs.{is_new_identifier};
+ghost use Rattle.node_notes.specs.Forms.{is_identifier};
+ghost use Rattle.node_notes.specs.Held.{identifier_in};
 ghost use Rattle.net_machine.specs.Ends.{IsPacket};
 ghost use Rattle.net_machine.specs.Owed.{owed as owed_by};
 ghost use Rattle.voe_net.specs.Kept.{IsNode, end_of};
@@ -61,7 +63,8 @@ pub fn notes<D: CrashDisk>(kept: &Option<Kept<D>>) -> usize
 
 /// The record at this place, counted from 0; nothing exactly past the end.
 pub fn note<D: CrashDisk>(kept: &Option<Kept<D>>, at: usize) -> Option<&Note>
-    ensures { option_copied result ≡ slice_get (show (option_map end_of kept.now)).notes at }
+    ensures value { option_copied result ≡ slice_get (show (option_map end_of kept.now)).notes at }
+    ensures identifier { IfSome result (λ note. is_identifier (identifier_in note.now) ≡ true) }
 {
     match book_up(kept) {
         Some(book) => book.note(at),

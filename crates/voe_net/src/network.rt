@@ -30,7 +30,7 @@ use std::marker::Model;
 use subscriber_end::SubscriberEnd;
 use voe_disk::{CrashDisk, Disk};
 use voe_scenario::Graph;
-use voe_values::{Bytes, NoMemory};
+use voe_values::{Bytes, NoMemory, Text};
 
 /// A network whose nodes keep their records on disks, stepped an event at a time. After a refused event its disks are only
 /// to be taken back.
@@ -138,7 +138,7 @@ impl<'a, D: CrashDisk> Network<'a, D> {
     }
 
     /// The report of all nodes, in order: of each a line, and a line for each identifier that it holds.
-    pub fn report(&self) -> Result<Bytes, NoMemory>
+    pub fn report(&self) -> Result<Text, NoMemory>
         requires { self.now.failed ≡ false }
         ensures { IfOk result (λ text. text ≡ report_of self.now.graph self.now.state) }
     {

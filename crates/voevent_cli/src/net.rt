@@ -27,6 +27,7 @@ use voe_disk::{CrashDisk, Disk, Rack};
 use voe_net::{Disks, NetFault, Network};
 use voe_packet::laws::drafts_read_back;
 use voe_scenario::{Scenario, ScenarioFault, read_scenario};
+use voe_values::Bytes;
 
 /// What is answered where no network was made over the disks.
 fn refuse(alloc: Global, fault: NetFault) -> Result<Outcome, Hindrance>
@@ -40,8 +41,22 @@ fn refuse(alloc: Global, fault: NetFault) -> Result<Outcome, Hindrance>
     }
 }
 
+/// What is answered where a network was run: its report.
+fn shown<D: CrashDisk>(alloc: Global, network: &Network<'_, D>) -> Result<Outcome, Hindrance>
+    requires { network.now.failed ≡ false }
+    ensures reports { IfOk result (λ outcome. outcome ≡ done (report_of network.now.graph network.now.state)) }
+    ensures lacks { IfErr result (λ hindrance. hindrance ≡ Hindrance.NoMemory) }
+{
+    let report = network.report()?;
+    Ok(Outcome {
+        status: Status::Done,
+        output: Bytes::of(alloc, report.as_str().as_bytes())?,
+    })
+}
+
 /// Steps a network through all events, and makes its report.
 fn report_of_run<D: CrashDisk>(
+    alloc: Global,
     network: &mut Network<'_, D>,
     events: &[Event],
 ) -> Result<Outcome, Hindrance>
@@ -56,10 +71,7 @@ fn report_of_run<D: CrashDisk>(
     ensures failed { IfErr result (λ hindrance. IsHinderedStep network.old.faults network.new.faults hindrance) }
 {
     match network.apply_all(events) {
-        Ok(()) => Ok(Outcome {
-            status: Status::Done,
-            output: network.report()?,
-        }),
+        Ok(()) => shown(alloc, network),
         Err(NetFault::AlreadyMade { .. }) => unreachable!(),
         Err(NetFault::Disk { .. }) => Err(Hindrance::DiskFault),
         Err(NetFault::NoMemory) => Err(Hindrance::NoMemory),
@@ -83,7 +95,7 @@ fn run_on<D: CrashDisk>(
 {
     match Network::new(alloc, &scenario.graph, scenario.packets.as_slice(), disks) {
         Ok(mut network) => {
-            let result = report_of_run(&mut network, scenario.events.as_slice());
+            let result = report_of_run(alloc, &mut network, scenario.events.as_slice());
             (network.into_disks(), result)
         }
         Err((disks, fault)) => (disks, refuse(alloc, fault)),
