@@ -18,8 +18,8 @@ use Rattle.net_machine.specs.Ends as net_ends
 use Rattle.net_machine.specs.Machine.{MachineView}
 use Rattle.net_machine.specs.Parts.{IsWhole, Moment, Slot, configs_of, node_of, slot_of, slots_of}
 use Rattle.net_machine.specs.declared.seat.Seat.{Seat}
-use Rattle.voe_net.specs.Networks.{AllKeep, AreOwn, IsEndOf, IsUpAs, network_of}
-use Rattle.voe_net.specs.Nodes.{TellsCrash, faults_of, if_kind, if_kind_up, is_same, nothing, show, show_up, steps_of}
+use Rattle.voe_net.specs.Networks.{AllKeep, AreOwn, AreTheirDisks, IsEndOf, IsUpAs, network_of}
+use Rattle.voe_net.specs.Nodes.{TellsCrash, disk_in, faults_of, if_kind, if_kind_up, is_same, nothing, show, show_up, steps_of}
 use Rattle.voe_net.specs.Starting.{AllTellImages}
 use Rattle.voe_net.specs.TakenBack.{AreTakenBack, IsTakenBack}
 use Rattle.voe_net.proofs.Eaches.{each-maps, each-weaken, get-there, map-found, map-get, map-length, some-same}
@@ -202,3 +202,6 @@ module _ {D : Type 0} (disk : Ghosts D) (seats : List (Seat (Option (EndView D))
   pub taken-counts : map disk.faults disks ≡ counts_of (faults_of disk) seats
   taken-counts = each-maps (λ seat. faults_of disk seat.end) disk.faults seats disks
       (each-weaken (λ n seat own. IsTakenBack disk seat.end own) (λ n seat own. disk.faults own ≡ faults_of disk seat.end) seats disks taken (λ n seat own one. one.faults))
+
+  pub taken-theirs : AreTheirDisks seats disks
+  taken-theirs = each-weaken (λ n seat own. IsTakenBack disk seat.end own) (λ n seat own. disk_in seat.end ≡ Some own) seats disks taken (λ n seat own one. one.its)

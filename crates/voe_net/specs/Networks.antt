@@ -14,7 +14,8 @@ use Rattle.net_machine.specs.AtEnds.{AllTell, counts_of}
 use Rattle.net_machine.specs.Machine.{MachineView}
 use Rattle.net_machine.specs.Parts.{IsOwn, Slot, configs_of, moment_of, slots_of, state_of}
 use Rattle.net_machine.specs.declared.seat.Seat.{Seat}
-use Rattle.voe_net.specs.Nodes.{TellsCrash, faults_of, show, steps_of}
+use Rattle.voe_net.specs.Each.{Each}
+use Rattle.voe_net.specs.Nodes.{TellsCrash, disk_in, faults_of, show, steps_of}
 
 -- The graph, the packets that its authors may write, the configurations of its nodes and the state; of each node how many
 -- steps its end has made and how often its disk has failed; the nodes themselves; and whether an event was refused.
@@ -73,3 +74,7 @@ pub record IsEndOf {D : Type 0} (disk : Ghosts D) (network : NetworkView D) (n :
 abbrev pub AllKeep : {D : Type 0} → Ghosts D → List Config → State → List D → Type 0
 AllKeep disk configs state disks = (n : ℕ) (own : _) (config : Config) → slice_get disks n ≡ Some own → slice_get configs n ≡ Some config
     → EachFile disk own (λ file. Keeps file config (notes_at state n))
+
+-- these are the nodes' own disks, each at its node's place
+abbrev pub AreTheirDisks : {D : Type 0} → List (Seat (Option (EndView D))) → List D → Type 0
+AreTheirDisks seats disks = Each (λ n seat own. disk_in seat.end ≡ Some own) seats disks

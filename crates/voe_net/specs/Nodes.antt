@@ -34,6 +34,11 @@ abbrev pub faults_of : {D : Type 0} → Ghosts D → Option (EndView D) → ℕ
 faults_of disk None = 0
 faults_of disk (Some end) = disk.faults end.disk
 
+-- the disk that it has
+abbrev pub disk_in : {D : Type 0} → Option (EndView D) → Option D
+disk_in None = None
+disk_in (Some end) = Some end.disk
+
 -- its disk tells what a crash leaves
 abbrev pub TellsCrash : {D : Type 0} → Ghosts D → Option (EndView D) → Type 0
 TellsCrash disk None = ⊥

@@ -11,7 +11,7 @@ ghost use Rattle.node_book.specs.Keeps.{Keeps};
 ghost use Rattle.path_filter.specs.Links.{AreReadable};
 ghost use Rattle.voe_values.specs.declared.kind.NodeKind.TheVariants.{Author as AnAuthor, Broker as ABroker, Subscriber as ASubscriber};
 ghost use Rattle.voe_net.specs.Kept.{IsKeptNode, IsNode, end_of};
-ghost use Rattle.voe_net.specs.Nodes.{AreDistinct, IsBegun, IsNotBegun, TellsCrash, faults_of, if_kind, names_of, show};
+ghost use Rattle.voe_net.specs.Nodes.{AreDistinct, IsBegun, IsNotBegun, TellsCrash, disk_in, faults_of, if_kind, names_of, show};
 ghost use Rattle.voe_net.specs.Sessions.{IsJoined};
 
 use crate::crashing::{into_disk, why_lost};
@@ -148,6 +148,7 @@ fn begin_session<D: CrashDisk>(end: &mut BrokerEnd<D>, link: usize) -> Result<()
 /// The disk as it is.
 pub fn disk_of<D: CrashDisk>(kept: Option<Kept<D>>) -> D
     requires { IsNode D.Disk kept }
+    ensures its { disk_in (option_map end_of kept) ≡ Some result }
     ensures kept { is_config (show (option_map end_of kept)).config ≡ true → EachFile D.Disk result (λ file. Keeps file (show (option_map end_of kept)).config (show (option_map end_of kept)).notes) }
     ensures unarmed { (D.arming result).calls ≡ None }
     ensures faults { D.faults result ≡ faults_of D.Disk (option_map end_of kept) }

@@ -53,7 +53,7 @@ impl<'a, D: CrashDisk> Model for Network<'a, D> {
 
 impl<'a, D: CrashDisk> Network<'a, D> {
     ghost use Rattle.voe_net.specs.Faults.{IsCaused};
-    ghost use Rattle.voe_net.specs.Networks.{AllKeep, IsEndOf, IsUpAs, TellsCrashes};
+    ghost use Rattle.voe_net.specs.Networks.{AllKeep, AreTheirDisks, IsEndOf, IsUpAs, TellsCrashes};
     ghost use Rattle.voe_net.specs.Right.{IsRight};
     ghost use Rattle.voe_net.specs.Starting.{AllBlank, AllTellImages, AreBack, AreConfigsOf, NoneArmed};
 
@@ -188,10 +188,11 @@ impl<'a, D: CrashDisk> Network<'a, D> {
         if seat.up { seat.end.subscriber() } else { None }
     }
 
-    /// The disks, one for each node in order, none of them armed. Unless an event was refused, each keeps its node's
+    /// The nodes' own disks, one for each node in order, none of them armed. Unless an event was refused, each keeps its node's
     /// configuration and records, and so does whatever a crash leaves of it.
     pub fn into_disks(self) -> Disks<D>
         ensures number { length result ≡ length self.entry.faults }
+        ensures theirs { AreTheirDisks self.entry.seats result }
         ensures kept { self.entry.failed ≡ false → AllKeep D.Disk self.entry.configs self.entry.state result }
         ensures unarmed { NoneArmed D.Disk result }
         ensures counts { map D.faults result ≡ self.entry.faults }

@@ -51,7 +51,7 @@ impl<D: CrashDisk> NodeEnd<D> {
     ghost use Rattle.gate_journal.specs.Reading.{IsUnmade};
     ghost use Rattle.node_book.specs.Keeps.{Keeps};
     ghost use Rattle.path_filter.specs.Links.{AreReadable};
-    ghost use Rattle.voe_net.specs.Nodes.{AreDistinct, IsBegun, IsNotBegun, TellsCrash, faults_of, if_kind, names_of, show};
+    ghost use Rattle.voe_net.specs.Nodes.{AreDistinct, IsBegun, IsNotBegun, TellsCrash, disk_in, faults_of, if_kind, names_of, show};
 
     /// A node on a disk that has no journal, up and without records; each link of a broker is in its first session. An
     /// `Err` hands the disk back, which is not armed.
@@ -74,6 +74,7 @@ impl<D: CrashDisk> NodeEnd<D> {
     /// The disk as it is, which is not armed. It keeps the configuration and the records that the end shows, and so does
     /// whatever a crash leaves of it, unless the disk has failed.
     pub fn into_disk(self) -> D
+        ensures its { disk_in self ≡ Some result }
         ensures kept { is_config (show self).config ≡ true → EachFile D.Disk result (λ file. Keeps file (show self).config (show self).notes) }
         ensures unarmed { (D.arming result).calls ≡ None }
         ensures faults { D.faults result ≡ faults_of D.Disk self }

@@ -13,7 +13,7 @@ pub loop-seat-preserved : goal.loop-seat-preserved
 loop-seat-preserved g c = record {
   taken = taken-on g.D.Disk c.args.seats c.loop-seat.left.items c.pop.new.self.items c.in-Some.seat c.args.disks.now.items c.loop-seat.disks.items c.push_reserved.new.self.items
       c.into_disk.result c.loop-seat.invariant.taken c.in-Some.ensures.items
-      (record { kept = c.into_disk.ensures.kept; unarmed = c.into_disk.ensures.unarmed; faults = c.into_disk.ensures.faults; told = c.into_disk.ensures.told })
+      (record { its = c.into_disk.ensures.its; kept = c.into_disk.ensures.kept; unarmed = c.into_disk.ensures.unarmed; faults = c.into_disk.ensures.faults; told = c.into_disk.ensures.told })
       c.push_reserved.ensures.items;
   room =
       let fewer = ap length c.in-Some.ensures.items in

@@ -9,7 +9,7 @@ use Rattle.voe_net.specs.Starting.{AllTellImages, NoneArmed}
 use Rattle.voe_net.specs.TakenBack.{AreTakenBack}
 use Rattle.voe_net.proofs.Backs.{taken-unarmed}
 use Rattle.voe_net.proofs.Eaches.{map-length}
-use Rattle.voe_net.proofs.Shows.{taken-counts, taken-kept, taken-told}
+use Rattle.voe_net.proofs.Shows.{taken-counts, taken-kept, taken-theirs, taken-told}
 use Rattle.voe_net.proofs.network.Network.into_disks.Goals as goal
 
 pub returns-clause-number : goal.returns-clause-number
@@ -19,6 +19,13 @@ returns-clause-number g c =
     let is : c.from_vec.result ≡ first = c.from_vec.ensures ∙ c.give_back.ensures.2 ∙ ap (λ rest. first ++ reverse rest) c.self.invariant.empty ∙ append-nil first in
     ap (λ (disks : List g.row.D.Denot). length disks) is ∙ taken.same ∙ sym (map-length (λ seat. faults_of g.D.Disk seat.end) c.self.inside.machine.parts.seats)
     ∙ ap (λ n. length n.faults) c.self.view_is
+
+pub returns-clause-theirs : goal.returns-clause-theirs
+returns-clause-theirs g c =
+    let first = c.give_back.ensures.0 in
+    let taken = subst (λ (all : List (Seat (Option (EndView g.row.D.Denot)))). AreTakenBack g.D.Disk all first) c.into_seats.ensures c.give_back.ensures.1 in
+    let is : c.from_vec.result ≡ first = c.from_vec.ensures ∙ c.give_back.ensures.2 ∙ ap (λ rest. first ++ reverse rest) c.self.invariant.empty ∙ append-nil first in
+    rw (← c.self.view_is, is) (taken-theirs g.D.Disk c.self.inside.machine.parts.seats first taken)
 
 pub returns-clause-kept : goal.returns-clause-kept
 returns-clause-kept g c = λ works.
