@@ -1,12 +1,13 @@
 //! The rack of the program: disks in memory for trials, and a file.
 
-ghost use Rattle.std.specs.Prelude.{◌≡◌, ◌<◌, ℕ, IsSome, IfOk, refl};
+ghost use Rattle.std.specs.Prelude.{◌≡◌, ◌<◌, ℕ, [], IsSome, Some, IfOk, refl};
+ghost use Rattle.voe_disk.specs.Runs.{IsFresh};
 ghost use Rattle.voe_disk.specs.Stops.{none_beyond};
 
 use std::alloc::Global;
 use std::fs::File;
 use std::rt::Files;
-use voe_disk::{FileDisk, MemoryDisk, MemoryRack, Rack};
+use voe_disk::{Disk, FileDisk, MemoryDisk, MemoryRack, Rack};
 use voe_values::{NoMemory, Text};
 
 /// Sixty-four empty disks in memory, and the file of a node's journal.
@@ -19,7 +20,7 @@ pub struct FileRack<R: Files<File = File> + Drop> {
 impl<R: Files<File = File> + Drop> FileRack<R> {
     /// Empty disks, and the file at this path, which is opened at its first call.
     pub fn new(rt: R, alloc: Global, path: Text) -> Result<FileRack<R>, NoMemory>
-        ensures trials { IfOk result (λ rack. (k : ℕ) → k < 64 → IsSome (⟦<FileRack<R> as Rack>⟧.trial rack k)) }
+        ensures trials { IfOk result (λ rack. (k : ℕ) → k < 64 → (disk : _) × (⟦<FileRack<R> as Rack>⟧.trial rack k ≡ Some disk) × IsFresh ⟦<MemoryDisk as Disk>⟧ disk [] []) }
         ensures real { IfOk result (λ rack. IsSome (⟦<FileRack<R> as Rack>⟧.real rack)) }
     {
         Ok(FileRack {

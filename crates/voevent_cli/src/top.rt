@@ -6,12 +6,14 @@ ghost use Rattle.voevent_cli.specs.Answers.{Answers, DoesAll, Ends, moment};
 ghost use Rattle.voevent_cli.specs.Racks.{IsWhole, disks};
 ghost use Rattle.voevent_cli.specs.Wanted.{DiskRose, code_of, command_of};
 
+use crate::laws::scenarios_have_room;
 use crate::outcome::Status;
 use crate::prepare::{Hindrance, prepare};
-use net_model::every_moment;
+use net_model::{drained_state, every_drain, every_moment};
 use std::alloc::Global;
 use voe_disk::Rack;
 use voe_outside::{Sink, Source, WriteFault, write_all};
+use voe_scenario::laws::scenarios_are_sound;
 use voe_values::Text;
 
 /// Reads what the words ask for, does it, makes the whole output, and writes it.
@@ -31,6 +33,10 @@ fn finish<S: Source, K: Sink, R: Rack>(
     ensures back { IsWhole (disks (λ k. R.trial rack.new k) (R.real rack.new)) }
 {
     every_moment();
+    every_drain();
+    drained_state();
+    scenarios_are_sound();
+    scenarios_have_room();
     let outcome = match prepare(alloc, words, source, rack) {
         Ok(outcome) => outcome,
         Err(Hindrance::ReadFault) => return Status::ReadFault,

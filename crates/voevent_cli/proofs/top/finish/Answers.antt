@@ -25,9 +25,18 @@ returns-in-Ok-write_all-clause-ends g c =
           })
           (safe_run command prepared.0 (record {
             single = c.every_moment.ensures.single;
+            written = c.every_moment.ensures.written;
             sourced = c.every_moment.ensures.sourced;
             covered = c.every_moment.ensures.covered;
             fulfilled = c.every_moment.ensures.fulfilled;
+            few = λ rules graph packets before names. c.every_drain.ensures.bounded rules graph packets before names;
+            rest = c.every_drain.ensures.rested;
+            up = c.every_drain.ensures.all_up;
+            settled = c.drained_state.ensures.settled;
+            answered = c.drained_state.ensures.answered;
+            delivered = c.drained_state.ensures.delivered;
+            sound = c.scenarios_are_sound.ensures;
+            room = c.scenarios_have_room.ensures;
           }));
     }
 
