@@ -37,7 +37,8 @@ fn words_of(rt: &(impl Env + AllocGlobal)) -> Result<Vec<Text>, NoMemory> {
 fn rack_of(rt: HostRuntime) -> Result<FileRack<HostRuntime>, NoMemory>
     ensures { IfOk result (λ rack. IsWhole (disks (λ k. ⟦<FileRack<HostRuntime> as Rack>⟧.trial rack k) (⟦<FileRack<HostRuntime> as Rack>⟧.real rack))) }
 {
-    FileRack::new(rt, rt.alloc(), Text::of(rt.alloc(), JOURNAL)?)
+    let rack = FileRack::new(rt, rt.alloc(), Text::of(rt.alloc(), JOURNAL)?)?;
+    Ok(rack)
 }
 
 fn main(rt: HostRuntime) -> ExitCode {
