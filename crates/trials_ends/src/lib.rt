@@ -1,0 +1,5 @@
+//! Trials of ends over disks in memory.
+#![tactic(auto)]
+
+#[cfg(test)]
+mod broker;
