@@ -1,191 +1,184 @@
 //! What a book answers, before and after it is loaded again.
 
-use crate::support::{
-    FIRST, SECOND, THIRD, Trouble, accept, acked, add, author, broker, disk_of, done, loaded, made,
-    refused, wrote,
-};
+use crate::support::{AUTHOR, BROKER, kept, loaded, note_of};
 use net_model::Note;
-use node_book::Book;
+use node_book::{Book, is_config, keeps_form};
 use std::alloc::Global;
 use std::process::Abort;
 use std::test::Fail;
 use voe_digest::Digest;
 use voe_disk::MemoryDisk;
 
-const BOTH: [&str; 2] = ["ivo://a/k#1", "ivo://a/k#2"];
+const FIRST: &str = "ivo://a/k#1";
 
-// A broker that owes the first packet to both links and the second to link 1, and has handed the first to link 0.
-fn broker_book(alloc: Global) -> Result<Book<MemoryDisk>, Trouble> {
-    let mut book = made(alloc, disk_of(alloc, b"", b"")?, broker(alloc)?)?;
-    add(&mut book, accept(alloc, FIRST, &[0, 1], b"abc")?)?;
-    add(&mut book, accept(alloc, SECOND, &[1], b"q")?)?;
-    add(&mut book, done(alloc, 0, FIRST)?)?;
-    Ok(book)
+const SECOND: &str = "ivo://a/k#2";
+
+const THIRD: &str = "ivo://a/k#3";
+
+// The first packet is owed to both links and the second to link 1, and the first was handed to link 0.
+const ACCEPTED: [&[u8]; 3] = [
+    b"\x04\0\x0bivo://a/k#1\x02\0\0\0\x01\0\0\0\x03abc",
+    b"\x04\0\x0bivo://a/k#2\x01\0\x01\0\0\0\x01q",
+    b"\x05\0\0\0\x0bivo://a/k#1",
+];
+
+// The first packet is answered on both lines, and the second is refused on line 1.
+const WRITTEN: [&[u8]; 5] = [
+    b"\x01\0\x0bivo://a/k#1\0\0\0\x03abc",
+    b"\x01\0\x0bivo://a/k#2\0\0\0\x01q",
+    b"\x02\0\0\0\x0bivo://a/k#1",
+    b"\x02\0\x01\0\x0bivo://a/k#1",
+    b"\x03\0\x01\0\x0bivo://a/k#2",
+];
+
+// A broker with a third link.
+const THREE_LINKS: &[u8] =
+    b"\0b\0\x09ivo://b/x\x03\0\x09ivo://s/x\0\0\x09ivo://s/y\0\0\x09ivo://s/z\0";
+
+// How many identifiers a link owes, and the first place from a place on that it owes or that a line has unanswered.
+fn asked(
+    book: &Book<MemoryDisk>,
+    number: u16,
+    after: usize,
+) -> (usize, Option<usize>, Option<usize>) {
+    let unanswered = if usize::from(number) < book.config().links.len() {
+        book.next_unanswered(number, after)
+    } else {
+        None
+    };
+    (book.owed(number), book.next_owed(number, after), unanswered)
 }
 
-// An author whose first packet is answered on both lines, and whose second is refused on line 1.
-fn author_book(alloc: Global) -> Result<Book<MemoryDisk>, Trouble> {
-    let mut book = made(alloc, disk_of(alloc, b"", b"")?, author(alloc)?)?;
-    add(&mut book, wrote(alloc, FIRST, b"abc")?)?;
-    add(&mut book, wrote(alloc, SECOND, b"q")?)?;
-    add(&mut book, acked(alloc, 0, FIRST)?)?;
-    add(&mut book, acked(alloc, 1, FIRST)?)?;
-    add(&mut book, refused(alloc, 1, SECOND)?)?;
-    Ok(book)
-}
-
-// The same book, loaded from its disk.
-fn again(alloc: Global, book: Book<MemoryDisk>) -> Result<Book<MemoryDisk>, Trouble> {
-    loaded(alloc, book.into_disk())
-}
-
-fn is_open(book: &Book<MemoryDisk>, number: u16, identifier: &str) -> Option<bool> {
-    if usize::from(number) >= book.config().links.len() {
-        return None;
-    }
-    Some(book.is_open(number, identifier.as_bytes()))
-}
-
-fn next_unanswered(book: &Book<MemoryDisk>, line: u16, after: usize) -> Option<usize> {
-    if usize::from(line) >= book.config().links.len() {
-        return None;
-    }
-    book.next_unanswered(line, after)
-}
-
-fn is_broker_asked(rt: &impl Abort, book: &Book<MemoryDisk>) {
-    let owed = [(0, 0), (1, 2), (2, 0)];
-    for (link, count) in owed {
-        assert!(rt; book.owed(link) == count);
-    }
-    let next = [
-        (0, 0, None),
-        (1, 0, Some(0)),
-        (1, 1, Some(1)),
-        (1, 2, None),
-        (2, 0, None),
-    ];
-    for (link, after, place) in next {
-        assert!(rt; book.next_owed(link, after) == place);
-    }
-    assert!(rt; next_unanswered(book, 1, 0).is_none());
-}
-
-fn is_broker_open(rt: &impl Abort, book: &Book<MemoryDisk>) {
-    let rows = [
-        (0, FIRST, false),
-        (1, FIRST, true),
-        (0, SECOND, false),
-        (1, SECOND, true),
-        (1, THIRD, false),
-    ];
-    for (link, identifier, open) in rows {
-        assert!(rt; is_open(book, link, identifier) == Some(open));
+fn is_asked(
+    rt: &impl Abort,
+    book: &Book<MemoryDisk>,
+    rows: &[(u16, usize, (usize, Option<usize>, Option<usize>))],
+) {
+    for (number, after, answers) in rows {
+        assert!(rt;
+            asked(book, *number, *after) == *answers,
+            "{number} {after}"
+        );
     }
 }
+
+// Whether an identifier is known, and whether it is open on a link or line that is configured.
+fn looked_up(book: &Book<MemoryDisk>, number: u16, identifier: &str) -> (bool, bool) {
+    let open = usize::from(number) < book.config().links.len()
+        && book.is_open(number, identifier.as_bytes());
+    (book.knows(identifier.as_bytes()), open)
+}
+
+fn is_looked_up(rt: &impl Abort, book: &Book<MemoryDisk>, rows: &[(u16, &str, (bool, bool))]) {
+    for (number, identifier, answers) in rows {
+        assert!(rt;
+            looked_up(book, *number, identifier) == *answers,
+            "{number} {identifier}"
+        );
+    }
+}
+
+const OWED: [(u16, usize, (usize, Option<usize>, Option<usize>)); 5] = [
+    (0, 0, (0, None, None)),
+    (1, 0, (2, Some(0), None)),
+    (1, 1, (2, Some(1), None)),
+    (1, 2, (2, None, None)),
+    (2, 0, (0, None, None)),
+];
+
+const UNANSWERED: [(u16, usize, (usize, Option<usize>, Option<usize>)); 4] = [
+    (0, 0, (0, None, Some(1))),
+    (0, 1, (0, None, Some(1))),
+    (0, 2, (0, None, None)),
+    (1, 0, (0, None, None)),
+];
 
 #[test]
-fn a_broker_owes_what_it_has_not_handed_over(rt: HostRuntime) -> Result<(), Fail> {
-    let book = broker_book(rt.alloc())?;
-    is_broker_asked(&rt, &book);
-    is_broker_open(&rt, &book);
-    Ok(())
-}
-
-#[test]
-fn a_loaded_broker_owes_what_it_owed(rt: HostRuntime) -> Result<(), Fail> {
-    let book = again(rt.alloc(), broker_book(rt.alloc())?)?;
-    is_broker_asked(&rt, &book);
-    is_broker_open(&rt, &book);
-    Ok(())
-}
-
-fn is_author_asked(rt: &impl Abort, book: &Book<MemoryDisk>) {
-    let rows = [(0, 0, Some(1)), (0, 1, Some(1)), (0, 2, None), (1, 0, None)];
-    for (line, after, place) in rows {
-        assert!(rt; next_unanswered(book, line, after) == place);
-    }
-    assert!(rt; is_open(book, 0, FIRST) == Some(false));
-    assert!(rt; is_open(book, 0, SECOND) == Some(true));
-    assert!(rt; is_open(book, 1, SECOND) == Some(false));
-    assert!(rt; book.owed(0) == 0);
-    assert!(rt; book.next_owed(0, 0).is_none());
-}
-
-#[test]
-fn an_author_asks_for_what_is_unanswered(rt: HostRuntime) -> Result<(), Fail> {
-    let book = author_book(rt.alloc())?;
-    is_author_asked(&rt, &book);
-    let book = again(rt.alloc(), book)?;
-    is_author_asked(&rt, &book);
+fn a_book_owes_the_same_when_it_is_loaded_again(rt: HostRuntime) -> Result<(), Fail> {
+    let alloc = rt.alloc();
+    let book = kept(alloc, BROKER, &ACCEPTED)?;
+    is_asked(&rt, &book, &OWED);
+    is_asked(&rt, &loaded(alloc, book.into_disk())?, &OWED);
+    let book = kept(alloc, AUTHOR, &WRITTEN)?;
+    is_asked(&rt, &book, &UNANSWERED);
+    is_asked(&rt, &loaded(alloc, book.into_disk())?, &UNANSWERED);
     Ok(())
 }
 
 #[test]
 fn a_book_knows_identifiers_and_digests(rt: HostRuntime) -> Result<(), Fail> {
-    let book = again(rt.alloc(), broker_book(rt.alloc())?)?;
-    for identifier in BOTH {
-        assert!(rt; book.knows(identifier.as_bytes()), "{identifier}");
-    }
-    assert!(rt; !book.knows(THIRD.as_bytes()));
-    assert_eq!(rt; book.digest_of(THIRD.as_bytes()), None);
+    let alloc = rt.alloc();
+    let book = loaded(alloc, kept(alloc, BROKER, &ACCEPTED)?.into_disk())?;
+    is_looked_up(
+        &rt,
+        &book,
+        &[
+            (0, FIRST, (true, false)),
+            (1, FIRST, (true, true)),
+            (0, SECOND, (true, false)),
+            (1, SECOND, (true, true)),
+            (1, THIRD, (false, false)),
+        ],
+    );
+    assert!(rt; book.digest_of(THIRD.as_bytes()).is_none());
+    assert!(rt; book.digest_of(SECOND.as_bytes()) == Some(Digest::of(b"q")));
     let digest = book.digest_of(FIRST.as_bytes()).ok_or("no digest")?;
-    let text = digest.text(rt.alloc())?;
-    assert_eq!(rt; text.as_str(), "a9993e364706816aba3e25717850c26c9cd0d89d");
-    assert_eq!(rt; book.digest_of(SECOND.as_bytes()), Some(Digest::of(b"q")));
+    let text = digest.text(alloc)?;
+    assert!(rt; text.as_str() == "a9993e364706816aba3e25717850c26c9cd0d89d");
     Ok(())
 }
 
-// The links of an accepted packet.
-fn links_of(note: Option<&Note>) -> &[u16] {
+// The links and the packet of an accepted packet.
+fn accepted(note: Option<&Note>) -> (&[u16], &[u8]) {
     match note {
-        Some(Note::Accept { links, .. }) => links.as_slice(),
-        _ => &[],
+        Some(Note::Accept { links, packet, .. }) => (links.as_slice(), packet.as_slice()),
+        _ => (&[], &[]),
     }
 }
 
+// Whether a note keeps to its form under the configuration of its book.
+fn is_in_form(book: &Book<MemoryDisk>, at: usize) -> bool {
+    match book.note(at) {
+        Some(note) => keeps_form(book.config(), note),
+        None => false,
+    }
+}
+
+// Whether the note of a payload under a configuration may stand behind those of a book.
+fn may_add(alloc: Global, book: &Book<MemoryDisk>, config: &[u8], payload: &[u8]) -> Option<bool> {
+    let note = note_of(alloc, config, payload).ok()?;
+    Some(book.may_add(&note))
+}
+
 #[test]
-fn a_book_tells_its_notes(rt: HostRuntime) -> Result<(), Fail> {
-    let book = again(rt.alloc(), broker_book(rt.alloc())?)?;
-    assert_eq!(rt; book.notes(), 3);
-    assert_eq!(rt; links_of(book.note(0)), [0, 1].as_slice());
-    assert_eq!(rt; links_of(book.note(1)), [1].as_slice());
-    assert!(rt; book.note(2).is_some());
+fn a_book_tells_its_notes_and_tries_others(rt: HostRuntime) -> Result<(), Fail> {
+    let alloc = rt.alloc();
+    let book = loaded(alloc, kept(alloc, BROKER, &ACCEPTED)?.into_disk())?;
+    assert!(rt; book.notes() == 3);
+    assert!(rt; accepted(book.note(0)) == ([0, 1].as_slice(), b"abc".as_slice()));
+    assert!(rt; accepted(book.note(1)) == ([1].as_slice(), b"q".as_slice()));
+    assert!(rt; is_config(book.config()));
+    assert!(rt; is_in_form(&book, 2));
     assert!(rt; book.note(3).is_none());
-    Ok(())
-}
-
-// Whether a note may stand behind those of a book.
-fn may_add(book: &Book<MemoryDisk>, note: Result<Note, Trouble>) -> Result<bool, Trouble> {
-    let note = note?;
-    Ok(book.may_add(&note))
-}
-
-#[test]
-fn a_packet_is_tried_before_it_is_added(rt: HostRuntime) -> Result<(), Fail> {
-    let alloc = rt.alloc();
-    let book = broker_book(alloc)?;
-    let rows: [(&str, &[u16], bool); 4] = [
-        (THIRD, &[0], true),
-        (FIRST, &[0], false),
-        (THIRD, &[2], false),
-        ("ivo://a/k", &[0], false),
+    // Behind them stands a packet that is not known, on links that are configured, or a delivery that is owed.
+    let rows: [(&[u8], &[u8], bool); 7] = [
+        (BROKER, b"\x04\0\x0bivo://a/k#3\x01\0\0\0\0\0\x01p", true),
+        (BROKER, b"\x04\0\x0bivo://a/k#1\x01\0\0\0\0\0\x01p", false),
+        (
+            THREE_LINKS,
+            b"\x04\0\x0bivo://a/k#3\x01\0\x02\0\0\0\x01p",
+            false,
+        ),
+        (AUTHOR, b"\x02\0\0\0\x0bivo://a/k#1", false),
+        (BROKER, b"\x05\0\x01\0\x0bivo://a/k#1", true),
+        (BROKER, b"\x05\0\0\0\x0bivo://a/k#1", false),
+        (BROKER, b"\x05\0\x01\0\x0bivo://a/k#3", false),
     ];
-    for (identifier, links, may_stand) in rows {
-        let tried = may_add(&book, accept(alloc, identifier, links, b"p"));
-        assert_eq!(rt; tried, Ok(may_stand), "{identifier} {links:?}");
+    for (config, payload, may_stand) in rows {
+        assert!(rt;
+            may_add(alloc, &book, config, payload) == Some(may_stand),
+            "{payload:?}"
+        );
     }
-    Ok(())
-}
-
-#[test]
-fn a_delivery_is_tried_before_it_is_added(rt: HostRuntime) -> Result<(), Fail> {
-    let alloc = rt.alloc();
-    let book = broker_book(alloc)?;
-    for (link, identifier, may_stand) in [(1, FIRST, true), (0, FIRST, false), (1, THIRD, false)] {
-        let tried = may_add(&book, done(alloc, link, identifier));
-        assert_eq!(rt; tried, Ok(may_stand), "{link} {identifier}");
-    }
-    assert_eq!(rt; may_add(&book, acked(alloc, 0, FIRST)), Ok(false));
     Ok(())
 }

@@ -1,7 +1,7 @@
 //! Trials of a node's book over disks in memory.
 //!
 //! It has nothing but tests: of the bytes that a book writes and reads, of each public call once with ample memory, and
-//! of a crash and a fault at each device call.
+//! of a crash and a fault at each device call. What is tried stands in tables of payloads, as they are on the disk.
 #![tactic(auto)]
 
 #[cfg(test)]
@@ -9,8 +9,8 @@ mod asking;
 #[cfg(test)]
 mod failing;
 #[cfg(test)]
-mod forms;
+mod files;
 #[cfg(test)]
-mod making;
+mod payloads;
 #[cfg(test)]
 mod support;

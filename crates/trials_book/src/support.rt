@@ -1,191 +1,92 @@
-//! What the trials have in common: disks, configurations and notes from short texts, and calls that see to their
-//! conditions.
+//! What the trials have in common: payloads, and books that are made of them.
 
 use net_model::Note;
-use node_book::{Book, BookFault, Config, LinkConfig, is_config};
-use std::alloc::{AllocError, AllocFailed, Global};
+use node_book::{Book, BookFault};
+use node_notes::{ReadFault, read_config, read_note};
+use std::alloc::Global;
 use voe_disk::MemoryDisk;
-use voe_values::{Bytes, EndName, Listing, NameFault, NoMemory, NodeKind};
+use voe_values::Bytes;
 
-pub const FIRST: &str = "ivo://a/k#1";
+/// A broker with two links, in 38 bytes.
+pub const BROKER: &[u8] = b"\0b\0\x09ivo://b/x\x02\0\x09ivo://s/x\0\0\x09ivo://s/y\0";
 
-pub const SECOND: &str = "ivo://a/k#2";
+/// An author with two lines, in 38 bytes.
+pub const AUTHOR: &[u8] = b"\0a\0\x09ivo://a/x\x02\0\x09ivo://b/x\0\0\x09ivo://b/y\0";
 
-pub const THIRD: &str = "ivo://a/k#3";
+/// A subscriber, in 14 bytes.
+pub const SUBSCRIBER: &[u8] = b"\0s\0\x09ivo://s/x\0";
 
-/// Why a trial went no further.
-#[derive(Clone, Copy, Debug, PartialEq, Eq)]
-pub enum Trouble {
-    NoMemory,
-    /// The trial asks for what no caller may ask for.
-    Unfit,
-    /// The book refuses.
-    Book { fault: BookFault },
-}
+pub const WROTE: &[u8] = b"\x01\0\x0bivo://a/k#1\0\0\0\x01p";
 
-impl From<NoMemory> for Trouble {
-    fn from(_: NoMemory) -> Self {
-        Trouble::NoMemory
-    }
-}
+pub const ACKED: &[u8] = b"\x02\0\x01\0\x0bivo://a/k#1";
 
-impl From<AllocError> for Trouble {
-    fn from(_: AllocError) -> Self {
-        Trouble::NoMemory
-    }
-}
+pub const REFUSED: &[u8] = b"\x03\0\x01\0\x0bivo://a/k#1";
 
-impl<T: Drop> From<AllocFailed<T>> for Trouble {
-    fn from(_: AllocFailed<T>) -> Self {
-        Trouble::NoMemory
-    }
-}
+pub const ACCEPT: &[u8] = b"\x04\0\x0bivo://a/k#1\x01\0\0\0\0\0\x01p";
 
-impl From<NameFault> for Trouble {
-    fn from(_: NameFault) -> Self {
-        Trouble::Unfit
-    }
-}
+pub const DONE: &[u8] = b"\x05\0\0\0\x0bivo://a/k#1";
 
-impl From<BookFault> for Trouble {
-    fn from(fault: BookFault) -> Self {
-        Trouble::Book { fault }
-    }
-}
+pub const ENTER: &[u8] = b"\x06\0\x0bivo://a/k#1\0\0\0\x01p";
 
-pub fn bytes_of(alloc: Global, bytes: &[u8]) -> Result<Bytes, Trouble> {
-    let bytes = Bytes::of(alloc, bytes)?;
-    Ok(bytes)
-}
+/// What stands for a payload that no caller may add. No book answers it.
+pub const UNFIT: BookFault = BookFault::BadNote { place: 0 };
 
 /// A disk with these bytes, of which the calls of these numbers fail.
-pub fn disk_of(alloc: Global, bytes: &[u8], fails: &[u8]) -> Result<MemoryDisk, Trouble> {
-    let bytes = bytes_of(alloc, bytes)?;
-    let fails = bytes_of(alloc, fails)?;
+pub fn disk_of(alloc: Global, bytes: &[u8], fails: &[u8]) -> Result<MemoryDisk, BookFault> {
+    let bytes = Bytes::of(alloc, bytes)?;
+    let fails = Bytes::of(alloc, fails)?;
     Ok(MemoryDisk::new(alloc, bytes, fails))
 }
 
-fn link_of(alloc: Global, name: &str) -> Result<LinkConfig, Trouble> {
-    let name = EndName::read(alloc, name)?;
-    Ok(LinkConfig {
-        name,
-        filters: Listing::new(alloc),
-    })
+/// The note of a payload under the configuration of another.
+pub fn note_of(alloc: Global, config: &[u8], payload: &[u8]) -> Result<Note, ReadFault> {
+    let config = read_config(alloc, config)?;
+    read_note(alloc, &config, payload)
 }
 
-/// A configuration of this kind and name, with links or lines of these names.
-pub fn config_of(
-    alloc: Global,
-    kind: NodeKind,
-    name: &str,
-    links: &[&str],
-) -> Result<Config, Trouble> {
-    let name = EndName::read(alloc, name)?;
-    let mut listed = Vec::new(alloc);
-    for link in links {
-        let link = link_of(alloc, link)?;
-        listed.push(link)?;
-    }
-    Ok(Config {
-        kind,
-        name,
-        links: Listing::from_vec(listed),
-    })
-}
-
-/// A broker with two links.
-pub fn broker(alloc: Global) -> Result<Config, Trouble> {
-    config_of(
-        alloc,
-        NodeKind::Broker,
-        "ivo://b/x",
-        &["ivo://s/x", "ivo://s/y"],
-    )
-}
-
-/// An author with two lines.
-pub fn author(alloc: Global) -> Result<Config, Trouble> {
-    config_of(
-        alloc,
-        NodeKind::Author,
-        "ivo://a/x",
-        &["ivo://b/x", "ivo://b/y"],
-    )
-}
-
-pub fn subscriber(alloc: Global) -> Result<Config, Trouble> {
-    config_of(alloc, NodeKind::Subscriber, "ivo://s/x", &[])
-}
-
-/// A book that is made on this disk.
-pub fn made(alloc: Global, disk: MemoryDisk, config: Config) -> Result<Book<MemoryDisk>, Trouble> {
-    if !is_config(&config) {
-        return Err(Trouble::Unfit);
-    }
+/// A book that is made on this disk, of the configuration of a payload.
+pub fn made(alloc: Global, disk: MemoryDisk, config: &[u8]) -> Result<Book<MemoryDisk>, BookFault> {
+    let Ok(config) = read_config(alloc, config) else {
+        return Err(UNFIT);
+    };
     match Book::make(alloc, disk, config) {
         Ok(book) => Ok(book),
-        Err((_, fault)) => Err(Trouble::Book { fault }),
+        Err((_, fault)) => Err(fault),
     }
 }
 
 /// The book of this disk.
-pub fn loaded(alloc: Global, disk: MemoryDisk) -> Result<Book<MemoryDisk>, Trouble> {
+pub fn loaded(alloc: Global, disk: MemoryDisk) -> Result<Book<MemoryDisk>, BookFault> {
     match Book::load(alloc, disk) {
         Ok(book) => Ok(book),
-        Err((_, fault)) => Err(Trouble::Book { fault }),
+        Err((_, fault)) => Err(fault),
     }
 }
 
-/// Adds a note, where it may stand behind the others. A note that is refused must have been handed back.
-pub fn add(book: &mut Book<MemoryDisk>, note: Note) -> Result<(), Trouble> {
+/// Adds the note of a payload, where it may stand behind the others.
+pub fn add(
+    alloc: Global,
+    book: &mut Book<MemoryDisk>,
+    config: &[u8],
+    payload: &[u8],
+) -> Result<(), BookFault> {
+    let Ok(note) = note_of(alloc, config, payload) else {
+        return Err(UNFIT);
+    };
     if !book.may_add(&note) {
-        return Err(Trouble::Unfit);
+        return Err(UNFIT);
     }
     match book.add(note) {
         Ok(()) => Ok(()),
-        Err((_, fault)) => Err(Trouble::Book { fault }),
+        Err((_, fault)) => Err(fault),
     }
 }
 
-pub fn wrote(alloc: Global, identifier: &str, packet: &[u8]) -> Result<Note, Trouble> {
-    let identifier = bytes_of(alloc, identifier.as_bytes())?;
-    let packet = bytes_of(alloc, packet)?;
-    Ok(Note::Wrote { identifier, packet })
-}
-
-pub fn acked(alloc: Global, line: u16, identifier: &str) -> Result<Note, Trouble> {
-    let identifier = bytes_of(alloc, identifier.as_bytes())?;
-    Ok(Note::Acked { line, identifier })
-}
-
-pub fn refused(alloc: Global, line: u16, identifier: &str) -> Result<Note, Trouble> {
-    let identifier = bytes_of(alloc, identifier.as_bytes())?;
-    Ok(Note::Refused { line, identifier })
-}
-
-pub fn accept(
-    alloc: Global,
-    identifier: &str,
-    links: &[u16],
-    packet: &[u8],
-) -> Result<Note, Trouble> {
-    let identifier = bytes_of(alloc, identifier.as_bytes())?;
-    let links = Listing::from_slice(alloc, links)?;
-    let packet = bytes_of(alloc, packet)?;
-    Ok(Note::Accept {
-        identifier,
-        links,
-        packet,
-    })
-}
-
-pub fn done(alloc: Global, link: u16, identifier: &str) -> Result<Note, Trouble> {
-    let identifier = bytes_of(alloc, identifier.as_bytes())?;
-    Ok(Note::Done { link, identifier })
-}
-
-pub fn enter(alloc: Global, identifier: &str, packet: &[u8]) -> Result<Note, Trouble> {
-    let identifier = bytes_of(alloc, identifier.as_bytes())?;
-    let packet = bytes_of(alloc, packet)?;
-    Ok(Note::Enter { identifier, packet })
+/// A book of a configuration and notes, over an empty disk.
+pub fn kept(alloc: Global, config: &[u8], notes: &[&[u8]]) -> Result<Book<MemoryDisk>, BookFault> {
+    let mut book = made(alloc, disk_of(alloc, b"", b"")?, config)?;
+    for note in notes {
+        add(alloc, &mut book, config, note)?;
+    }
+    Ok(book)
 }
