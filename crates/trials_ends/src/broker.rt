@@ -12,7 +12,7 @@ use voe_values::{Bytes, EndName};
 const NEW: &[u8] = b"\x01VOEVENT JRNL 1\n\x01\0\0\0\x1a\0b\0\x09ivo://b/x\x01\0\x09ivo://s/x\0\0";
 
 /// A packet without content.
-const FIRST: &[u8] =
+pub const FIRST: &[u8] =
     b"<voe:VOEvent xmlns:voe=\"http://www.ivoa.net/xml/VOEvent/v2.0\" ivorn=\"ivo://a/k#1\" role=\"test\" version=\"2.0\"></voe:VOEvent>";
 
 /// Another packet of the same identifier.
@@ -20,7 +20,7 @@ const OTHER: &[u8] =
     b"<voe:VOEvent xmlns:voe=\"http://www.ivoa.net/xml/VOEvent/v2.0\" ivorn=\"ivo://a/k#1\" role=\"observation\" version=\"2.0\"></voe:VOEvent>";
 
 /// An answer, in a word and a number.
-type Said = (&'static str, u64);
+pub type Said = (&'static str, u64);
 
 fn said(step: &BrokerStep) -> Said {
     match step {

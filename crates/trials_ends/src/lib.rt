@@ -3,3 +3,5 @@
 
 #[cfg(test)]
 mod broker;
+#[cfg(test)]
+mod subscriber;
