@@ -1,5 +1,5 @@
 -- Entries, where they stand and what they are.
-use Rattle.std.proofs.Common.{◌≡◌, ℕ, zero, suc, ◌+◌, ◌<◌, ◌≤◌, true, List, [], ◌∷◌, ◌++◌, length, map, get_or, take, drop, refl, sym, ◌∙◌, ap, arith, append_assoc, length-append, length-drop, take-append-drop}
+use Rattle.std.proofs.Common.{◌≡◌, ℕ, zero, suc, ◌+◌, ◌<◌, ◌≤◌, true, List, [], ◌∷◌, ◌++◌, length, get_or, take, drop, refl, sym, ◌∙◌, ap, arith, append_assoc, length-append, length-drop}
 use Rattle.std.specs.Prelude.{Bool, ◌&&◌, ◌==◌}
 use Rattle.std.specs.List.{flat_map}
 use Rattle.std.proofs.lemmas.Bool.{and_parts, and_from}
@@ -8,7 +8,6 @@ use Rattle.std.proofs.lemmas.List.{drop-take, take-take, take_at, drop_at, lengt
 use Rattle.gate_journal.specs.Format.{header, length_bytes, body_of, front}
 use Rattle.gate_journal.specs.Entries.{payload_at, payloads_at, are_chained}
 use Rattle.gate_journal.specs.declared.entry.Entry.{Entry}
-use Rattle.gate_journal.proofs.Files.{front-push}
 use Rattle.gate_journal.proofs.Split.{length-header}
 
 same_number : (m n : ℕ) → (m == n) ≡ true → m ≡ n

@@ -11,8 +11,7 @@ ghost use Rattle.gate_journal.specs.Reading.{IsUnmade, IsRefusal};
 ghost use Rattle.gate_journal.specs.Making.{IsMaking, IsMakingSoFar, IsOther};
 
 use crate::JournalFault;
-use crate::entry::body;
-use crate::gate::write_behind;
+use crate::appender::{Appender, appender_at};
 use crate::load::read_journal;
 use crate::make::make_journal;
 use crate::payloads::Payloads;
@@ -20,31 +19,29 @@ use std::alloc::Global;
 use std::marker::Model;
 use voe_disk::{CrashDisk, Disk, DiskFail};
 
-const MAX_SIZE: u64 = 67_108_864;
-
 /// Payloads of 1 to 1,100,000 bytes on a disk that the journal owns, at most 67,108,864 bytes with their gates. A
 /// payload that was added is there after a crash at any later moment. After a failure of the disk the journal is
 /// down; the disk is taken back and loaded again.
 #[derive(Drop)]
 pub struct Journal<D: Disk> {
-    alloc: Global,
-    disk: D,
+    appender: Appender<D>,
     payloads: Payloads,
-    down: Option<DiskFail>,
 }
 
 impl<D: Disk> Model for Journal<D> {
-    ghost use Rattle.gate_journal.specs.Journal.{JournalView, IsSound};
+    ghost use Rattle.gate_journal.specs.Appender.{HasPayloads};
+    ghost use Rattle.gate_journal.specs.Journal.{JournalView};
     ghost use Rattle.gate_journal.specs.Payloads.{payloads_in};
 
     ghost Value = { JournalView D };
 
-    ghost view = { λ j. record { disk = j.disk; payloads = payloads_in j.payloads; down = j.down } };
+    ghost view = { λ j. record { disk = j.appender.disk; payloads = payloads_in j.payloads; down = j.appender.down } };
 
-    ghost invariant = { λ j. IsSound D.Disk (record { disk = j.disk; payloads = payloads_in j.payloads; down = j.down }) };
+    ghost invariant = { λ j. HasPayloads D.Disk j.appender (payloads_in j.payloads) };
 }
 
 impl<D: Disk> Journal<D> {
+    ghost use Rattle.gate_journal.specs.Appender.{HasPayloads};
     ghost use Rattle.gate_journal.specs.Fault.{fault_of, ComesFromDisk, IsMakeFault, IsMissing};
     ghost use Rattle.gate_journal.specs.Journal.{IsSound};
 
@@ -70,12 +67,10 @@ impl<D: Disk> Journal<D> {
             return Err((disk, JournalFault::NoMemory));
         };
         match make_journal(&mut disk) {
-            Ok(()) => Ok(Journal {
-                alloc,
-                disk,
-                payloads,
-                down: None,
-            }),
+            Ok(()) => {
+                let appender = appender_at(alloc, disk, payloads.end());
+                Ok(Journal { appender, payloads })
+            }
             Err(fault) => Err((disk, fault)),
         }
     }
@@ -105,12 +100,10 @@ impl<D: Disk> Journal<D> {
         ensures stopped { IfErr result (λ e. e.1 ≡ JournalFault.Stopped → (D.arming e.0).calls ≡ Some 0) }
     {
         match read_journal(alloc, &mut disk) {
-            Ok(payloads) => Ok(Journal {
-                alloc,
-                disk,
-                payloads,
-                down: None,
-            }),
+            Ok(payloads) => {
+                let appender = appender_at(alloc, disk, payloads.end());
+                Ok(Journal { appender, payloads })
+            }
             Err(fault) => Err((disk, fault)),
         }
     }
@@ -120,7 +113,7 @@ impl<D: Disk> Journal<D> {
         ensures down { result ≡ self.now.down }
         ensures sound { IsSound D.Disk self.now }
     {
-        self.down
+        self.appender.down()
     }
 
     /// The number of payloads.
@@ -149,7 +142,7 @@ impl<D: Disk> Journal<D> {
     pub fn faults(&self) -> u64
         ensures { result ≡ D.faults self.now.disk }
     {
-        self.disk.faults()
+        self.appender.faults()
     }
 
     /// The disk as it is.
@@ -157,8 +150,18 @@ impl<D: Disk> Journal<D> {
         ensures disk { result ≡ self.disk }
         ensures sound { IsSound D.Disk self }
     {
-        let Journal { disk, .. } = self;
-        disk
+        let Journal { appender, .. } = self;
+        appender.into_disk()
+    }
+
+    /// The journal without its payloads in memory, which are let go.
+    pub fn into_appender(self) -> Appender<D>
+        ensures payloads { HasPayloads D.Disk result self.payloads }
+        ensures disk { result.disk ≡ self.disk }
+        ensures down { result.down ≡ self.down }
+    {
+        let Journal { appender, .. } = self;
+        appender
     }
 
     /// Adds a payload. After `Ok` each crash from then on leaves a journal that has it. After `Full` (G4) and
@@ -202,21 +205,14 @@ impl<D: Disk> Journal<D> {
             → (fill : ℕ) (image : List ℕ) → D.crash_image self.new.disk fill ≡ Some image
             → Stands image (kept (D.arming self.old.disk).calls fill self.old.payloads payload.now) }
     {
-        if let Some(fail) = self.down {
+        if let Some(fail) = self.appender.down() {
             return Err(JournalFault::from(fail));
         }
-        let gate = self.payloads.end();
-        let end = gate + 6 + payload.len() as u64;
-        if end > MAX_SIZE {
+        if !self.appender.has_room(payload.len()) {
             return Err(JournalFault::Full);
         }
-        let entry = body(self.alloc, payload)?;
         self.payloads.reserve(payload.len())?;
-        self.disk.reserve(end, 4, entry.len() as u64 + 1)?;
-        if let Err(fail) = write_behind(&mut self.disk, gate, &entry) {
-            self.down = Some(fail);
-            return Err(JournalFault::from(fail));
-        }
+        self.appender.append(payload)?;
         self.payloads.push(payload);
         Ok(())
     }
@@ -238,6 +234,6 @@ impl<D: CrashDisk> Journal<D> {
         ensures faults { D.faults self.new.disk ≡ D.faults self.old.disk }
         ensures any_moment { OneStep D.is_since D.left_since D.may_leave self.old.disk self.new.disk }
     {
-        self.disk.arm(calls, fill);
+        self.appender.arm(calls, fill);
     }
 }

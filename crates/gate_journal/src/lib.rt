@@ -4,6 +4,7 @@
 //! and of the disk through the disk's own contract.
 #![tactic(auto)]
 
+mod appender;
 mod entry;
 mod fault;
 mod gate;
@@ -15,6 +16,7 @@ mod payloads;
 mod reading;
 mod room;
 
+pub use appender::Appender;
 pub use fault::JournalFault;
 pub use journal::Journal;
 pub use laws::one_reading;

@@ -23,8 +23,8 @@ if_err_map (Err e) P Q so holds = so e holds
 
 free_on_the_way : (reading : Option (List ℕ)) (image : List ℕ) → IfSome reading IsUnmade → IsJournalOnTheWay reading image → IsFree image
 free_on_the_way reading image unmade (inl same) = inl (some_has reading IsUnmade image same unmade)
-free_on_the_way reading image unmade (inr (inl none)) = inl none
-free_on_the_way reading image unmade (inr (inr empty)) = inr empty
+free_on_the_way reading image unmade (inr (was, inl none)) = inl none
+free_on_the_way reading image unmade (inr (was, inr empty)) = inr empty
 
 pub unmade_free : (reading : Option (List ℕ)) → IfSome reading IsUnmade → IfSome reading IsFree
 unmade_free None is = tt

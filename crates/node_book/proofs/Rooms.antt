@@ -1,6 +1,6 @@
 -- Whether there is room, by the length that the journal would have.
-use Rattle.std.proofs.Common.{◌≡◌, ℕ, ◌+◌, ◌-◌, ◌^◌, ◌<◌, ◌≤◌, Bool, true, false, ◌&&◌, ◌||◌, not, List, length, refl, sym, ap, ◌∙◌, arith}
-use Rattle.std.specs.Prelude.{min, nat_lt}
+use Rattle.std.proofs.Common.{◌≡◌, ℕ, ◌+◌, ◌<◌, ◌≤◌, Bool, true, false, ◌&&◌, ◌||◌, not, List, length, refl, sym, ap, ◌∙◌, arith}
+use Rattle.std.specs.Prelude.{nat_lt}
 use Rattle.std.proofs.lemmas.Bool.{leb-true, le-leb, lt-leb, and_parts}
 use Rattle.gate_journal.specs.Format.{front}
 use Rattle.gate_journal.specs.declared.fault.JournalFault.{JournalFault}
@@ -10,38 +10,35 @@ use Rattle.node_notes.specs.declared.config.Config.{Config}
 use Rattle.node_notes.specs.Held.{is_bringing, held}
 use Rattle.node_notes.specs.Spelling.{note_payload}
 use Rattle.node_notes.specs.Tells.{payloads_of}
-use Rattle.node_book.specs.declared.fault.BookFault.TheVariants.{Full}
+use Rattle.node_book.specs.declared.fault.BookFault.TheVariants.{Full, Stopped}
 use Rattle.node_book.specs.Fault.{book_fault}
 use Rattle.node_book.specs.Keeps.{has_room}
 
-module _ (config : Config) (notes : List Note) (note : Note) (payloads : List (List ℕ)) (n size : ℕ) (told : payloads ≡ payloads_of config notes) (n_is : n ≡ length (note_payload note))
-    (size_is : size ≡ min (length (front payloads) + 6 + n) (2 ^ 64 - 1)) where
+module _ (config : Config) (notes : List Note) (note : Note) (end size : ℕ) (end_is : end ≡ length (front (payloads_of config notes))) (size_is : size ≡ length (note_payload note)) where
   abbrev needed : ℕ
   needed = length (front (payloads_of config notes)) + 6 + length (note_payload note)
 
-  needs : length (front payloads) + 6 + n ≡ needed
-  needs = (λ i. length (front (told i)) + 6 + n_is i)
+  needs : end + 6 + size ≡ needed
+  needs = (λ i. end_is i + 6 + size_is i)
 
-  pub room_fits : (slot : Bool) → size ≤ 67108864 → slot ≡ (not (is_bringing note) || nat_lt (held notes) 65536) → slot ≡ has_room config notes note
+  pub room_fits : (slot : Bool) → end + 6 + size ≤ 67108864 → slot ≡ (not (is_bringing note) || nat_lt (held notes) 65536) → slot ≡ has_room config notes note
   unfolding has_room
   room_fits slot le is =
-      let fits : needed ≤ 67108864 = omega (arith, size_is, needs, le) in
+      let fits : needed ≤ 67108864 = omega (arith, needs, le) in
       is ∙ sym (ap (λ (b : Bool). b && (not (is_bringing note) || nat_lt (held notes) 65536)) (le-leb needed 67108864 fits))
 
-  pub room_lacks : 67108864 < size → has_room config notes note ≡ false
+  pub room_lacks : 67108864 < end + 6 + size → has_room config notes note ≡ false
   unfolding has_room
   room_lacks lt =
-      let over : 67108864 < needed = omega (arith, size_is, needs, lt) in
+      let over : 67108864 < needed = omega (arith, needs, lt) in
       ap (λ (b : Bool). b && (not (is_bringing note) || nat_lt (held notes) 65536)) (lt-leb needed 67108864 over)
 
--- where there is room, the journal has room for the payload
-pub journal_fits : (config : Config) (notes : List Note) (note : Note) (payloads : List (List ℕ)) (payload : List ℕ) → payloads ≡ payloads_of config notes → payload ≡ note_payload note → has_room config notes note ≡ true
-    → 67108864 < length (front payloads) + 6 + length payload → ⊥
-unfolding has_room
-journal_fits config notes note payloads payload told is room over =
-    let fits = leb-true (length (front (payloads_of config notes)) + 6 + length (note_payload note)) 67108864 (and_parts _ _ room).0 in
-    let same : length (front payloads) + 6 + length payload ≡ length (front (payloads_of config notes)) + 6 + length (note_payload note) = (λ i. length (front (told i)) + 6 + length (is i)) in
-    omega (arith, fits, same, over)
+  -- where there is room, the journal has room for the payload
+  pub journal_fits : has_room config notes note ≡ true → 67108864 < end + 6 + size → ⊥
+  unfolding has_room
+  journal_fits room over =
+      let fits = leb-true needed 67108864 (and_parts _ _ room).0 in
+      omega (arith, fits, needs, over)
 
 pub was_full : (fault : JournalFault) → book_fault fault ≡ Full → fault ≡ journal.Full
 was_full journal.Unmade is = absurd (cc is)
@@ -52,3 +49,13 @@ was_full journal.AlreadyMade is = absurd (cc is)
 was_full journal.DiskFault is = absurd (cc is)
 was_full journal.Stopped is = absurd (cc is)
 was_full journal.NoMemory is = absurd (cc is)
+
+pub was_stopped : (fault : JournalFault) → book_fault fault ≡ Stopped → fault ≡ journal.Stopped
+was_stopped journal.Unmade is = absurd (cc is)
+was_stopped (journal.NotJournal place) is = absurd (cc is)
+was_stopped (journal.Damaged place) is = absurd (cc is)
+was_stopped journal.Full is = absurd (cc is)
+was_stopped journal.AlreadyMade is = absurd (cc is)
+was_stopped journal.DiskFault is = absurd (cc is)
+was_stopped journal.Stopped is = refl
+was_stopped journal.NoMemory is = absurd (cc is)

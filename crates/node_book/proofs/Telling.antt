@@ -9,8 +9,10 @@ use Rattle.net_model.specs.declared.note.Note.{Note}
 use Rattle.node_notes.specs.Spelling.{note_payload, config_payload}
 use Rattle.node_notes.specs.Reading.{note_of}
 use Rattle.node_notes.specs.Forms.{is_config, keeps_form, may_follow, is_next}
-use Rattle.node_notes.specs.Tells.{AreInOrder, Tells}
+use Rattle.node_notes.specs.Tells.{AreInOrder, payloads_of, Tells}
 use Rattle.node_book.specs.Keeps.{Keeps, KeepsBeforeOrAfter, kept_notes}
+use Rattle.node_book.specs.Records.{AreKept, payloads_in}
+use Rattle.node_book.specs.declared.records.Records.{Records}
 use Rattle.node_notes.proofs.Payloads.{note_again}
 use Rattle.node_notes.proofs.Shapes.{note_spells}
 
@@ -22,6 +24,9 @@ in_order_more config before (n ∷ notes) note each next =
 payloads_more : (notes : List Note) (note : Note) → map note_payload (notes ++ note ∷ []) ≡ map note_payload notes ++ note_payload note ∷ []
 payloads_more [] note = refl
 payloads_more (n ∷ notes) note = ap (λ (l : List (List ℕ)). note_payload n ∷ l) (payloads_more notes note)
+
+pub payloads_of-append : (config : Config) (notes : List Note) (note : Note) → payloads_of config (notes ++ note ∷ []) ≡ payloads_of config notes ++ note_payload note ∷ []
+payloads_of-append config notes note = ap (λ (l : List (List ℕ)). config_payload config ∷ l) (payloads_more notes note)
 
 pub tells_more : (payloads : List (List ℕ)) (config : Config) (notes : List Note) (note : Note) → Tells payloads config notes → is_next config notes note ≡ true → Tells (payloads ++ note_payload note ∷ []) config (notes ++ note ∷ [])
 tells_more payloads config notes note tells next = record {
@@ -35,6 +40,10 @@ pub either_keeps : (payloads : List (List ℕ)) (config : Config) (notes : List 
 either_keeps payloads config notes note tells next image (inl stands) = inl (record { payloads = payloads; stands = stands; tells = tells })
 either_keeps payloads config notes note tells next image (inr stands) =
     inr (record { payloads = payloads ++ note_payload note ∷ []; stands = stands; tells = tells_more payloads config notes note tells next })
+
+-- records in memory
+pub kept_tells : (records : Records) → AreKept records → Tells (payloads_in records) records.config records.notes.items
+kept_tells records kept = record { config_fits = kept.config_fits; in_order = kept.in_order; payloads_are = refl }
 
 -- one payload, one record
 pub same_note : (config : Config) (one two : Note) → is_config config ≡ true → keeps_form config one ≡ true → keeps_form config two ≡ true → note_payload one ≡ note_payload two → one ≡ two

@@ -8,7 +8,9 @@ use Rattle.node_notes.specs.declared.config.Config.{Config}
 use Rattle.node_notes.specs.Forms.{is_broker, is_config, is_next}
 use Rattle.node_notes.specs.Held.{is_bringing, identifier_in}
 use Rattle.node_notes.specs.Spelling.{note_payload}
-use Rattle.node_notes.specs.Tells.{AreInOrder, Tells}
+use Rattle.node_notes.specs.Tells.{AreInOrder, payloads_of, Tells}
+use Rattle.gate_journal.specs.Appender.{AppenderView, HasPayloads}
+use Rattle.voe_disk.specs.declared.disk.Disk.{Ghosts}
 use Rattle.node_book.specs.Index.{IsIndexOf}
 use Rattle.node_book.specs.declared.fault.BookFault.{BookFault}
 use Rattle.node_book.specs.declared.fault.BookFault.TheVariants.{Unmade, NotJournal, Damaged, Full, AlreadyMade, DiskFault, Stopped, NoMemory, BadNote}
@@ -27,6 +29,15 @@ pub record AreKept (records : Records) : Type 0 where
 pub record IsTold (payloads : List (List ℕ)) (records : Records) : Type 0 where
   pub kept : AreKept records
   pub tells : Tells payloads records.config records.notes.items
+
+-- the payloads of the configuration and the notes
+abbrev pub payloads_in : Records → List (List ℕ)
+payloads_in records = payloads_of records.config records.notes.items
+
+-- they are in order, and a disk's journal has their payloads
+pub record AreOnDisk {D : Type 0} (disk : Ghosts D) (journal : AppenderView D) (records : Records) : Type 0 where
+  pub kept : AreKept records
+  pub has : HasPayloads disk journal (payloads_in records)
 
 -- a link or line that is configured, or any of a broker
 abbrev pub IsEdge : Config → ℕ → Type 0

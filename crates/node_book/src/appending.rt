@@ -1,30 +1,29 @@
 //! A note comes onto the disk.
 
-ghost use Rattle.std.specs.Prelude.{◌≡◌, ◌⊎◌, ◌↔◌, ◌+◌, ◌<◌, ◌≤◌, ◌^◌, true, false, [], ◌∷◌, ◌++◌, List, ℕ, length, min, not, nat_lt, ◌||◌, ◌-◌, IfOk, IfErr, IfSome, OnOk, OnErr, IsErrOf, Some, None};
+ghost use Rattle.std.specs.Prelude.{◌≡◌, ◌⊎◌, ◌↔◌, ◌<◌, ◌≤◌, true, false, [], ◌∷◌, ◌++◌, List, ℕ, not, nat_lt, ◌||◌, IfOk, IfErr, IfSome, OnOk, OnErr, IsErrOf, Some, None};
 ghost use Rattle.std.specs.Option.{option_map};
 ghost use Rattle.voe_disk.specs.Disk.{Rose, counted};
 ghost use Rattle.voe_disk.specs.Failing.{passed};
 ghost use Rattle.voe_disk.specs.Runs.{LeavesOnly, Untouched};
 ghost use Rattle.gate_journal.specs.Device.{IsSameDisk};
 ghost use Rattle.gate_journal.specs.Fault.{fault_of};
-ghost use Rattle.gate_journal.specs.Format.{front, kept, Stands, StandsBeforeOrAfter};
-ghost use Rattle.gate_journal.specs.Journal.{IsSound};
+ghost use Rattle.gate_journal.specs.Appender.{HasPayloads};
+ghost use Rattle.gate_journal.specs.Format.{kept, Stands, StandsBeforeOrAfter};
 ghost use Rattle.node_notes.specs.Forms.{is_next};
 ghost use Rattle.node_notes.specs.Held.{held as held_by, is_bringing as brings_any};
 ghost use Rattle.node_notes.specs.Spelling.{note_payload};
+ghost use Rattle.node_notes.specs.Tells.{payloads_of};
 ghost use Rattle.node_book.specs.Fault.{ComesFromDisk, book_fault};
 ghost use Rattle.node_book.specs.Keeps.{has_room as has_room_for};
-ghost use Rattle.node_book.specs.Records.{AreKept, HasNotePlace, IsTold};
+ghost use Rattle.node_book.specs.Records.{AreKept, AreOnDisk, HasNotePlace, payloads_in};
 
 use crate::fault::BookFault;
 use crate::records::{Records, is_bringing};
-use gate_journal::{Journal, JournalFault};
+use gate_journal::{Appender, JournalFault};
 use net_model::Note;
 use node_notes::{note_len, write_note};
 use std::alloc::Global;
 use voe_disk::{Disk, DiskFail};
-
-const MAX_SIZE: u64 = 67_108_864;
 
 const MAX_IDENTIFIERS: usize = 65_536;
 
@@ -32,21 +31,21 @@ const MAX_IDENTIFIERS: usize = 65_536;
 /// identifier that it brings.
 pub fn append_note<D: Disk>(
     alloc: Global,
-    journal: &mut Journal<D>,
+    journal: &mut Appender<D>,
     records: &mut Records,
     note: &Note,
 ) -> Result<Vec<u8>, BookFault>
-    requires told { IsTold journal.old.payloads records.old }
+    requires on_disk { AreOnDisk D.Disk journal.old records.old }
     requires next { is_next records.old.config records.old.notes.items note.now ≡ true }
 
-    ensures sound { IsSound D.Disk journal.new }
     ensures config { records.new.config ≡ records.old.config }
     ensures notes { records.new.notes.items ≡ records.old.notes.items }
     ensures kept { AreKept records.new }
-    ensures ok { OnOk result ((journal.new.payloads ≡ journal.old.payloads ++ note_payload note.now ∷ []) × (journal.new.down ≡ None)) }
+    ensures ok { OnOk result (HasPayloads D.Disk journal.new (payloads_of records.old.config (records.old.notes.items ++ note.now ∷ []))) }
+    ensures up { OnOk result (journal.new.down ≡ None) }
     ensures place { IfOk result (λ key. HasNotePlace note.now key records.new) }
-    ensures err { OnErr result (journal.new.payloads ≡ journal.old.payloads) }
-    ensures any_moment { journal.old.down ≡ None → LeavesOnly D.Disk journal.old.disk journal.new.disk (StandsBeforeOrAfter journal.old.payloads (note_payload note.now)) }
+    ensures err { OnErr result (HasPayloads D.Disk journal.new (payloads_in records.old)) }
+    ensures any_moment { journal.old.down ≡ None → LeavesOnly D.Disk journal.old.disk journal.new.disk (StandsBeforeOrAfter (payloads_in records.old) (note_payload note.now)) }
 
     ensures four { OnOk result (D.failing journal.new.disk ≡ option_map passed (option_map passed (option_map passed (option_map passed (D.failing journal.old.disk))))) }
     ensures counted { OnOk result (D.arming journal.new.disk ≡ counted (counted (counted (counted (D.arming journal.old.disk))))) }
@@ -67,7 +66,7 @@ pub fn append_note<D: Disk>(
     ensures quiet { (IsErrOf result BookFault.DiskFault → ⊥) → D.faults journal.new.disk ≡ D.faults journal.old.disk }
     ensures stopped_image { IsErrOf result BookFault.Stopped → journal.old.down ≡ None
         → (fill : ℕ) (image : List ℕ) → D.crash_image journal.new.disk fill ≡ Some image
-        → Stands image (kept (D.arming journal.old.disk).calls fill journal.old.payloads (note_payload note.now)) }
+        → Stands image (kept (D.arming journal.old.disk).calls fill (payloads_in records.old) (note_payload note.now)) }
 {
     if let Some(fail) = journal.down() {
         return Err(BookFault::from(JournalFault::from(fail)));
@@ -82,12 +81,12 @@ pub fn append_note<D: Disk>(
 }
 
 // Whether the journal has room for a note's payload, and the book for an identifier that it brings.
-fn has_room<D: Disk>(journal: &Journal<D>, records: &Records, note: &Note) -> bool
-    requires told { IsTold journal.now.payloads records.now }
+fn has_room<D: Disk>(journal: &Appender<D>, records: &Records, note: &Note) -> bool
+    requires on_disk { AreOnDisk D.Disk journal.now records.now }
     requires next { is_next records.now.config records.now.notes.items note.now ≡ true }
     ensures { result ≡ has_room_for records.now.config records.now.notes.items note.now }
 {
-    end_with(journal, note_len(note)) <= MAX_SIZE && has_identifier(records, note)
+    journal.has_room(note_len(note)) && has_identifier(records, note)
 }
 
 // Whether the book has room for an identifier that a note brings.
@@ -96,21 +95,4 @@ fn has_identifier(records: &Records, note: &Note) -> bool
     ensures { result ≡ (not (brings_any note.now) || nat_lt (held_by records.now.notes.items) 65536) }
 {
     !is_bringing(note) || records.held() < MAX_IDENTIFIERS
-}
-
-// Where a journal's closed gate would stand behind one payload more of this length, one past it, and at most 2^64 - 1.
-fn end_with<D: Disk>(journal: &Journal<D>, count: usize) -> u64
-    requires some { 1 ≤ length journal.now.payloads }
-    requires few { count ≤ 1100000 }
-    ensures { result ≡ min (length (front journal.now.payloads) + 6 + count) (2 ^ 64 - 1) }
-{
-    let last = journal.payloads() - 1;
-    let Some(place) = journal.place(last) else {
-        unreachable!()
-    };
-    let Some(payload) = journal.payload(last) else {
-        unreachable!()
-    };
-    let behind = 5 + payload.len() as u64 + 6 + count as u64;
-    place.saturating_add(behind)
 }

@@ -22,7 +22,7 @@ use crate::fault::BookFault;
 use crate::making::make_journal;
 use crate::opening::read_records;
 use crate::records::Records;
-use gate_journal::Journal;
+use gate_journal::{Appender, Journal};
 use net_model::Note;
 use node_notes::{Config, keeps_form};
 use std::alloc::Global;
@@ -36,19 +36,19 @@ use voe_values::NodeKind;
 #[derive(Drop)]
 pub struct Book<D: Disk> {
     alloc: Global,
-    journal: Journal<D>,
+    journal: Appender<D>,
     records: Records,
 }
 
 impl<D: Disk> Model for Book<D> {
     ghost use Rattle.node_book.specs.Book.{BookView};
-    ghost use Rattle.node_book.specs.Records.{IsTold};
+    ghost use Rattle.node_book.specs.Records.{AreOnDisk};
 
     ghost Value = { BookView D };
 
     ghost view = { λ b. record { disk = b.journal.disk; config = b.records.config; notes = b.records.notes.items; down = b.journal.down } };
 
-    ghost invariant = { λ b. IsTold b.journal.payloads b.records };
+    ghost invariant = { λ b. AreOnDisk D.Disk b.journal b.records };
 }
 
 impl<D: Disk> Book<D> {
@@ -82,7 +82,7 @@ impl<D: Disk> Book<D> {
         let journal = make_journal(alloc, disk, &records.config)?;
         Ok(Book {
             alloc,
-            journal,
+            journal: journal.into_appender(),
             records,
         })
     }
@@ -118,7 +118,7 @@ impl<D: Disk> Book<D> {
         match read_records(alloc, &journal) {
             Ok(records) => Ok(Book {
                 alloc,
-                journal,
+                journal: journal.into_appender(),
                 records,
             }),
             Err(fault) => Err((journal.into_disk(), fault)),

@@ -1,4 +1,4 @@
-use Rattle.std.proofs.Common.{◌≡◌, List, ℕ, length, refl, sym, ◌∙◌, ap, rules}
+use Rattle.std.proofs.Common.{◌≡◌, List, length, sym, ◌∙◌, ap, rules}
 use Rattle.std.proofs.lemmas.List.{append-nil}
 use Rattle.gate_journal.specs.Format.{header, front}
 use Rattle.gate_journal.specs.Entries.{payloads_at, are_chained}

@@ -6,7 +6,8 @@ use Rattle.node_book.specs.Fault.{book_fault}
 use Rattle.node_notes.specs.Forms.{is_next}
 use Rattle.node_book.specs.Keeps.{Keeps, KeepsBeforeOrAfter, kept_notes}
 use Rattle.node_book.specs.Book.{BookView}
-use Rattle.node_book.proofs.Telling.{either_keeps, kept_keeps}
+use Rattle.node_book.specs.Records.{payloads_in}
+use Rattle.node_book.proofs.Telling.{either_keeps, kept_keeps, kept_tells}
 use Rattle.node_book.proofs.book.Book.add.Goals as goal
 
 pub returns-in-Ok-clause-any_moment : goal.returns-in-Ok-clause-any_moment
@@ -15,7 +16,7 @@ returns-in-Ok-clause-any_moment g c =
     let P : BookView _ → Type 0 = λ v. is_next v.config v.notes c.args.note ≡ true → v.down ≡ None → LeavesOnly d v.disk c.append_note.new.journal.disk (KeepsBeforeOrAfter v.config v.notes c.args.note) in
     subst P c.self.view_is (λ next up.
     let left = c.append_note.ensures.any_moment up in
-    record { later = left.later; each = λ image at. either_keeps c.self.inside.journal.payloads c.self.inside.records.config c.self.inside.records.notes.items c.args.note c.self.invariant.tells next image (left.each image at) }) c.requires
+    record { later = left.later; each = λ image at. either_keeps (payloads_in c.self.inside.records) c.self.inside.records.config c.self.inside.records.notes.items c.args.note (kept_tells c.self.inside.records c.self.invariant.kept) next image (left.each image at) }) c.requires
 
 pub returns-in-Err-clause-any_moment : goal.returns-in-Err-clause-any_moment
 returns-in-Err-clause-any_moment g c =
@@ -23,7 +24,7 @@ returns-in-Err-clause-any_moment g c =
     let P : BookView _ → Type 0 = λ v. is_next v.config v.notes c.args.note ≡ true → v.down ≡ None → LeavesOnly d v.disk c.append_note.new.journal.disk (KeepsBeforeOrAfter v.config v.notes c.args.note) in
     subst P c.self.view_is (λ next up.
     let left = c.append_note.ensures.any_moment up in
-    record { later = left.later; each = λ image at. either_keeps c.self.inside.journal.payloads c.self.inside.records.config c.self.inside.records.notes.items c.args.note c.self.invariant.tells next image (left.each image at) }) c.requires
+    record { later = left.later; each = λ image at. either_keeps (payloads_in c.self.inside.records) c.self.inside.records.config c.self.inside.records.notes.items c.args.note (kept_tells c.self.inside.records c.self.invariant.kept) next image (left.each image at) }) c.requires
 
 pub returns-in-Ok-clause-down : goal.returns-in-Ok-clause-down
 returns-in-Ok-clause-down g c fail is =
@@ -56,4 +57,4 @@ returns-in-Err-clause-stopped_image g c is =
     let P : BookView _ → Type 0 = λ v. is_next v.config v.notes c.args.note ≡ true → v.down ≡ None → (fill : ℕ) (image : List ℕ) → d.crash_image c.append_note.new.journal.disk fill ≡ Some image
     → Keeps image v.config (kept_notes (d.arming v.disk).calls fill v.notes c.args.note) in
     subst P c.self.view_is (λ next up fill image left.
-    kept_keeps inside.journal.payloads inside.records.config inside.records.notes.items c.args.note c.self.invariant.tells next (d.arming inside.journal.disk).calls fill image (c.in-Err.ensures.stopped_image (λ i. Err (is i)) up fill image left)) c.requires
+    kept_keeps (payloads_in inside.records) inside.records.config inside.records.notes.items c.args.note (kept_tells inside.records c.self.invariant.kept) next (d.arming inside.journal.disk).calls fill image (c.in-Err.ensures.stopped_image (λ i. Err (is i)) up fill image left)) c.requires
