@@ -19,3 +19,5 @@ pub mod CheckViews
 pub mod LinkBits
 pub mod LinkUnique
 pub mod LinkPasses
+pub mod OnceLaws
+pub mod DifferLaws

@@ -1,5 +1,5 @@
 -- What the parts of a search give.
-use Rattle.std.specs.Prelude.{◌≡◌, ℕ, suc, ◌<◌, ◌≤◌, ◌⊎◌, List, length}
+use Rattle.std.specs.Prelude.{◌≡◌, ◌≢◌, ℕ, suc, ◌<◌, ◌≤◌, ◌⊎◌, List, length}
 use Rattle.voe_tree.specs.declared.element.Element.{Element}
 use Rattle.filter_text.specs.Filter.{Text, descendant, element, attribute, Steps, step, Path}
 use Rattle.path_filter.specs.Meaning.{MeetsName, Related}
@@ -43,6 +43,10 @@ Next ss = NextBelow (length ss) ss
 
 abbrev pub PathFindsWanted : Path → Element → Element → Wanted → Type 0
 PathFindsWanted way root e w = (s : Text) × PathFinds way root e s × Suits w root s
+
+-- a string of the one path differs from a string of the other
+abbrev pub PathsDiffer : Path → Path → Element → Element → Type 0
+PathsDiffer one other root e = (s : Text) × (t : Text) × PathFinds one root e s × PathFinds other root e t × (s ≢ t)
 
 abbrev pub OwnAttribute : Steps → Element → Element → Wanted → Type 0
 OwnAttribute ss root e w = (s : Text) × FindsOwn ss e s × Suits w root s

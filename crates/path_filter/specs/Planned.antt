@@ -1,7 +1,8 @@
 -- Which plans stand for which paths. The stages stand the last one first.
-use Rattle.std.specs.Prelude.{◌≡◌, ◌↔◌, ℕ, suc, ◌+◌, ◌<◌, ◌≤◌, IsTrue, List, [], ◌∷◌, ◌++◌, length}
+use Rattle.std.specs.Prelude.{◌≡◌, ◌↔◌, ℕ, suc, ◌+◌, ◌<◌, ◌≤◌, IsTrue, true, List, [], ◌∷◌, ◌++◌, length}
 use Rattle.voe_tree.specs.declared.element.Element.{Element}
-use Rattle.filter_text.specs.Filter.{Text, Path, Steps, arrived, Part, element, attribute, Condition, Conditions}
+use Rattle.filter_text.specs.Filter.{Text, Path, path, Steps, arrived, Part, element, attribute, Condition, Conditions, Operand, found}
+use Rattle.filter_text.specs.Size.{steps_in_steps}
 use Rattle.filter_text.specs.Filter as filter
 use Rattle.filter_text.specs.View.{steps_of}
 use Rattle.filter_text.specs.declared.filter.Path.{Path as CodePath, out-Path}
@@ -29,6 +30,15 @@ abbrev pub AllMean : List Stage → Checks → Conditions → Type 0
 AllMean plan no_more filter.no_more = Unit {0}
 AllMean plan (more k ks) (filter.more c cs) = Means plan k c × AllMean plan ks cs
 AllMean plan _ _ = ⊥
+
+-- a path from the document, with a step
+abbrev pub IsFromDocument : Operand → Type 0
+IsFromDocument (found (path true ss)) = 0 < steps_in_steps ss
+IsFromDocument _ = ⊥
+
+-- the condition holds at each element of a document or at none
+abbrev pub IsSameEverywhere : Condition → Type 0
+IsSameEverywhere c = (root e f : Element) → Is c root e → Is c root f
 
 -- a string that the path names is what is sought
 abbrev pub Seeks : Path → Sought → Element → Element → Type 0

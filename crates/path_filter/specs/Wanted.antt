@@ -8,6 +8,7 @@ use Rattle.filter_text.specs.Size.{size_of_operand, steps_in_operand}
 use Rattle.path_filter.specs.Meaning.{Related}
 use Rattle.path_filter.specs.Search.{Strings}
 use Rattle.filter_text.specs.View.{comparison_of, operand_of}
+use Rattle.filter_text.specs.declared.filter.Comparison.TheVariants as comparisons
 use Rattle.path_filter.specs.declared.wanted.Found.{Found}
 use Rattle.path_filter.specs.declared.wanted.Found.TheVariants as found
 use Rattle.path_filter.specs.declared.wanted.Wanted.{Wanted}
@@ -21,6 +22,13 @@ text_found (found.Text s) = s.now
 abbrev pub IsShallow : Found → Type 0
 IsShallow (found.Element e) = depth e.now ≤ 64
 IsShallow (found.Text s) = Unit {0}
+
+abbrev pub anything : Wanted
+anything = wanted.Anything
+
+-- the string that was found
+abbrev pub exactly : Found → Wanted
+exactly f = wanted.Related comparisons.Equal f
 
 -- the string is what is wanted
 abbrev pub Suits : Wanted → Element → Text → Type 0

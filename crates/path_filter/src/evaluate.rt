@@ -1,15 +1,15 @@
 //! Whether conditions hold and paths find what is wanted.
 
-ghost use Rattle.std.specs.Prelude.{◌≡◌, ◌↔◌, ◌≤◌, ℕ, IsTrue, map};
+ghost use Rattle.std.specs.Prelude.{◌≡◌, ◌↔◌, ◌≤◌, ◌+◌, ℕ, IfNone, IfSome, IsTrue, map};
 ghost use Rattle.voe_tree.specs.Shape.{depth};
-ghost use Rattle.filter_text.specs.Filter.{Steps, arrived, attribute};
+ghost use Rattle.filter_text.specs.Filter.{Steps, arrived, attribute, compare, differs};
 ghost use Rattle.filter_text.specs.Size.{steps_in_condition, steps_in_conditions, steps_in_operand, steps_in_path, steps_in_steps};
 ghost use Rattle.filter_text.specs.View.{comparison_of, condition_of, conditions_of, front_of, operand_of, part_of, path_of, steps_of, test_of};
-ghost use Rattle.path_filter.specs.Evaluate.{Goes, Next, OwnAttribute, OwnFinds, PathFindsWanted, Relates, SearchFinds, Stays};
+ghost use Rattle.path_filter.specs.Evaluate.{Goes, Next, OwnAttribute, OwnFinds, PathFindsWanted, PathsDiffer, Relates, SearchFinds, Stays};
 ghost use Rattle.path_filter.specs.Meaning.{MeetsName, Related};
 ghost use Rattle.path_filter.specs.Positions.{Has};
 ghost use Rattle.path_filter.specs.Search.{Each, Is, IsSo, One};
-ghost use Rattle.path_filter.specs.Wanted.{IsShallow, Nests, Suits, steps_in_wanted, text_found};
+ghost use Rattle.path_filter.specs.Wanted.{IsShallow, Nests, Suits, anything, exactly, steps_in_wanted, text_found};
 
 use crate::positions::Positions;
 use crate::text::have_same_text;
@@ -66,10 +66,43 @@ pub fn holds(condition: &Condition, root: &Element, at: &Element) -> bool
         Condition::AllOf(conditions) => each_holds(conditions.as_slice(), root, at),
         Condition::Not(inner) => !holds(inner.get(), root, at),
         Condition::Holds(operand) => is_so(operand, root, at),
-        Condition::Compare(left, how, right) => match left {
-            Operand::Literal(text) => relates(right, *how, Found::Text(text.as_str()), root, at),
-            Operand::LocalName => relates(right, *how, Found::Text(at.local.as_str()), root, at),
-            Operand::Path(path) => finds(path, root, at, &Wanted::RelatedToOne(*how, right, at)),
+        Condition::Compare(left, how, right) => match how {
+            Comparison::Equal => compares(left, how, right, root, at),
+            Comparison::Differs => differs(left, right, root, at),
+        },
+    }
+}
+
+/// Whether some string of the one operand is so related to some string of the other.
+#[cycle(evaluate)]
+fn compares(left: &Operand, how: &Comparison, right: &Operand, root: &Element, at: &Element) -> bool
+    requires shallow { depth root.now ≤ 64 }
+    requires inside { depth at.now ≤ depth root.now }
+    requires small { steps_in_operand (operand_of left.now) + steps_in_operand (operand_of right.now) ≤ 512 }
+    ensures { IsTrue result ↔ Is (compare (operand_of left.now) (comparison_of how.now) (operand_of right.now)) root.now at.now }
+{
+    match left {
+        Operand::Literal(text) => relates(right, *how, Found::Text(text.as_str()), root, at),
+        Operand::LocalName => relates(right, *how, Found::Text(at.local.as_str()), root, at),
+        Operand::Path(path) => finds(path, root, at, &Wanted::RelatedToOne(*how, right, at)),
+    }
+}
+
+/// Whether some string of the one operand differs from some string of the other.
+#[cycle(evaluate)]
+fn differs(left: &Operand, right: &Operand, root: &Element, at: &Element) -> bool
+    requires shallow { depth root.now ≤ 64 }
+    requires inside { depth at.now ≤ depth root.now }
+    requires small { steps_in_operand (operand_of left.now) + steps_in_operand (operand_of right.now) ≤ 512 }
+    ensures { IsTrue result ↔ Is (compare (operand_of left.now) differs (operand_of right.now)) root.now at.now }
+{
+    match left {
+        Operand::Literal(_) => compares(left, &Comparison::Differs, right, root, at),
+        Operand::LocalName => compares(left, &Comparison::Differs, right, root, at),
+        Operand::Path(path) => match right {
+            Operand::Literal(_) => compares(left, &Comparison::Differs, right, root, at),
+            Operand::LocalName => compares(left, &Comparison::Differs, right, root, at),
+            Operand::Path(other) => differ(path, other, root, at),
         },
     }
 }
@@ -134,6 +167,116 @@ fn relates(
         Operand::Literal(text) => are_related(found, how, Found::Text(text.as_str())),
         Operand::LocalName => are_related(found, how, Found::Text(at.local.as_str())),
     }
+}
+
+/// Whether some string of the one path differs from some string of the other: both have strings, and those are not
+/// all one.
+#[cycle(evaluate)]
+fn differ(path: &Path, other: &Path, root: &Element, at: &Element) -> bool
+    requires shallow { depth root.now ≤ 64 }
+    requires inside { depth at.now ≤ depth root.now }
+    requires small { steps_in_path (path_of path.now) + steps_in_path (path_of other.now) ≤ 512 }
+    ensures { IsTrue result ↔ PathsDiffer (path_of path.now) (path_of other.now) root.now at.now }
+{
+    match first(path, root, at) {
+        None => false,
+        Some(found) => {
+            let unlike = Wanted::Related(Comparison::Differs, found);
+            finds(other, root, at, &unlike)
+                || (finds(other, root, at, &Wanted::Anything) && finds(path, root, at, &unlike))
+        }
+    }
+}
+
+/// The first place that the path finds.
+#[cycle(evaluate)]
+fn first<'a>(path: &Path, root: &'a Element, at: &'a Element) -> Option<Found<'a>>
+    requires shallow { depth root.now ≤ 64 }
+    requires inside { depth at.now ≤ depth root.now }
+    requires small { steps_in_path (path_of path.now) ≤ 512 }
+    ensures some { IfSome result (λ f. IsShallow f × PathFindsWanted (path_of path.now) root.now at.now (exactly f)) }
+    ensures none { IfNone result (PathFindsWanted (path_of path.now) root.now at.now anything → ⊥) }
+{
+    let steps = path.steps.as_slice();
+    let start = Positions::only(0);
+    if !path.is_absolute {
+        return first_from(steps, &start, root, at);
+    }
+    if steps.is_empty() {
+        return Some(Found::Element(root));
+    }
+    let reached = advance(steps, &start, root, root);
+    first_from(steps, &reached, root, root)
+}
+
+/// The first place that is found from an element at which these positions are reached.
+#[cycle(evaluate)]
+fn first_from<'a>(
+    steps: &[Step],
+    reached: &Positions,
+    root: &Element,
+    at: &'a Element,
+) -> Option<Found<'a>>
+    requires shallow { depth root.now ≤ 64 }
+    requires inside { depth at.now ≤ depth root.now }
+    requires small { steps_in_steps (steps_of steps.now) ≤ 512 }
+    ensures some { IfSome result (λ f. IsShallow f × SearchFinds steps.now (Has reached.now) root.now at.now (exactly f)) }
+    ensures none { IfNone result (SearchFinds steps.now (Has reached.now) root.now at.now anything → ⊥) }
+{
+    if reached.has(steps.len()) {
+        return Some(Found::Element(at));
+    }
+    if let Some(found) = first_attribute(steps, reached, at) {
+        return Some(found);
+    }
+    for child in at.children.as_slice() {
+        match child {
+            Node::Element(inner) => {
+                let next = advance(steps, reached, root, inner);
+                if let Some(found) = first_from(steps, &next, root, inner) {
+                    return Some(found);
+                }
+            }
+            Node::Text(_) => {}
+        }
+    }
+    None
+}
+
+/// The first attribute of the element itself that a reached step names.
+fn first_attribute<'a>(steps: &[Step], reached: &Positions, at: &'a Element) -> Option<Found<'a>>
+    requires small { steps_in_steps (steps_of steps.now) ≤ 512 }
+    ensures some { IfSome result (λ f. IsShallow f × ((root : Element) → OwnFinds steps.now (Has reached.now) root at.now (exactly f))) }
+    ensures none { IfNone result ((root : Element) → OwnFinds steps.now (Has reached.now) root at.now anything → ⊥) }
+{
+    for (i, step) in steps.iter().enumerate() {
+        if reached.has(i) {
+            if let Some(found) = attribute_of(step, at) {
+                return Some(found);
+            }
+        }
+    }
+    None
+}
+
+/// The first attribute of the element itself that the step names.
+fn attribute_of<'a>(step: &Step, at: &'a Element) -> Option<Found<'a>>
+    ensures some { IfSome result (λ f. IsShallow f × ((root : Element) (rest : Steps) → OwnAttribute (front_of step.now rest) root at.now (exactly f))) }
+    ensures none { IfNone result ((root : Element) (rest : Steps) → OwnAttribute (front_of step.now rest) root at.now anything → ⊥) }
+{
+    if !names_attributes(step) {
+        return None;
+    }
+    for attribute in at.attributes.as_slice() {
+        if meets(
+            &step.test,
+            attribute.space.as_str(),
+            attribute.local.as_str(),
+        ) {
+            return Some(Found::Text(attribute.value.as_str()));
+        }
+    }
+    None
 }
 
 /// Whether the path finds what is wanted.

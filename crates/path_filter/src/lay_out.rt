@@ -6,11 +6,12 @@ ghost use Rattle.filter_text.specs.Size.{steps_in_condition, steps_in_conditions
 ghost use Rattle.filter_text.specs.View.{comparison_of, condition_of, conditions_of, front_of, operand_of, part_of, path_of, steps_of};
 ghost use Rattle.filter_text.specs.declared.filter.Path.{out-Path};
 ghost use Rattle.path_filter.specs.Plan.{IsMade, IsOfDocument, check_of, checks_of, newest};
-ghost use Rattle.path_filter.specs.Planned.{AllMean, Follows, Grows, IsLast, IsPlanOf, Looks, Means, Stands, Starts};
+ghost use Rattle.path_filter.specs.Planned.{AllMean, Follows, Grows, IsLast, IsPlanOf, IsSameEverywhere, Looks, Means, Stands, Starts};
 ghost use Rattle.path_filter.specs.declared.plan.Sought.{Sought};
 ghost use Rattle.path_filter.specs.declared.plan.Stage.{Stage};
 
 use crate::copy::{copy_condition, copy_test};
+use crate::once::{is_same_everywhere, root_where};
 use crate::plan::{Check, Next, Sought, Stage};
 use filter_text::{Comparison, Condition, Operand, Part, Path, Step};
 use sqlite_items::{Boxed, Items};
@@ -33,6 +34,25 @@ fn plan_other(alloc: Global, condition: &Condition) -> Result<Check, NoMemory>
 {
     let condition = copy_condition(alloc, condition)?;
     Ok(Check::Other(condition))
+}
+
+/// A condition that is the same at each element. It is evaluated once, at the root, by a step of its own.
+fn plan_once(
+    alloc: Global,
+    plan: &mut Items<Stage>,
+    condition: &Condition,
+) -> Result<Check, NoMemory>
+    requires made { IsMade (newest plan.old) }
+    requires small { steps_in_condition (condition_of condition.now) ≤ 512 }
+    requires some { 0 < steps_in_condition (condition_of condition.now) }
+    requires same { IsSameEverywhere (condition_of condition.now) }
+    ensures grows { OnOk result (Grows (newest plan.old) (newest plan.new) (steps_in_condition (condition_of condition.now))) }
+    ensures means { IfOk result (λ k. Means (newest plan.new) (check_of k) (condition_of condition.now)) }
+{
+    let condition = copy_condition(alloc, condition)?;
+    let stage = root_where(alloc, condition)?;
+    let position = push(plan, stage)?;
+    Ok(Check::Anywhere(position))
 }
 
 /// The check of what a path finds from this position on.
@@ -96,6 +116,9 @@ fn plan_condition(
             None => plan_other(alloc, condition),
         },
         Condition::Compare(left, how, right) => {
+            if is_same_everywhere(condition) {
+                return plan_once(alloc, plan, condition);
+            }
             match plan_compared(alloc, plan, left, *how, right)? {
                 Some(check) => Ok(check),
                 None => plan_other(alloc, condition),

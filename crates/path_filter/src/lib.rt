@@ -15,6 +15,7 @@ pub mod laws;
 mod lay_out;
 mod link_fault;
 mod links;
+mod once;
 mod passes;
 mod pieces;
 mod plan;

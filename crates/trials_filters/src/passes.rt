@@ -23,6 +23,10 @@ const NO_PARAM: &str =
 const NESTED: &str =
     "<a k='1' j=''><b k='2'><c>x<d>y</d>z</c></b><b k='3'><b k='4'/></b><p:b xmlns:p='u' k='5' p:k='6'>w</p:b><e> 1.0 </e></a>";
 
+/// Strings that are all one, and some that differ.
+const PAIRS: &str =
+    "<r k='1'><p k='1'>t</p><p k='1'>t</p><q k='1' m='2'>t</q><s k='3'>u<e/></s><v><w>t</w></v></r>";
+
 /// Elements whose names are words of filters.
 const WORDS: &str = "<and><or/><not/></and>";
 
@@ -151,6 +155,70 @@ fn comparisons_ask_for_one_pair_of_strings(rt: HostRuntime) {
             ("//b[@k=b/@k]", false),
             ("/a[b/b/@k=//@k]", true),
             ("/a['4'=b/b/@k]", true),
+        ],
+    );
+}
+
+#[test]
+fn strings_of_two_paths_differ_where_they_are_not_all_one(rt: HostRuntime) {
+    let alloc = rt.alloc();
+    answers(
+        &rt,
+        alloc,
+        PAIRS,
+        &[
+            // All one on both sides.
+            ("/r[p/@k!=q/@k]", false),
+            ("/r[p!=q]", false),
+            ("/r[v/w!=p]", false),
+            ("/r[p!=p]", false),
+            ("/r[s!=//s]", false),
+            // The first ones agree, and a later one of either side doesn't.
+            ("/r[p/@k!=q/@*]", true),
+            ("/r[q/@*!=p/@k]", true),
+            ("/r[q/@*!=q/@*]", true),
+            // Nothing on one side, or on both.
+            ("/r[p/@k!=x/@k]", false),
+            ("/r[x/@k!=p/@k]", false),
+            ("/r[q/@*!=x]", false),
+            ("/r[x!=q/@*]", false),
+            ("/r[x!=x]", false),
+            ("/r[x!=local-name()]", false),
+            ("/r[p/@k!=local-name()]", true),
+            // One from the element, and one from the document.
+            ("//p[@k!=//q/@k]", false),
+            ("//q[@m!=/r/@k]", true),
+            ("//s[//p/@k!=@k]", true),
+            // Within the path of another comparison.
+            ("/r[p[@k!=//q/@k]/@k=q/@k]", false),
+            ("/r[s[@k!=//q/@k]!=p]", true),
+        ],
+    );
+}
+
+#[test]
+fn paths_from_the_document_are_compared_alike_at_each_element(rt: HostRuntime) {
+    let alloc = rt.alloc();
+    answers(
+        &rt,
+        alloc,
+        PAIRS,
+        &[
+            ("//e[//p/@k=//q/@k]", true),
+            ("//e[//p/@k=//s/@k]", false),
+            ("//e[//p/@k!=//s/@k]", true),
+            ("//*[//p/@k!=//q/@k]", false),
+            ("//e[not(//p=//v)]", false),
+            ("//x[//p=//v]", false),
+            ("//w[//p=//v and not(//p!=//v)]", true),
+            ("//w[//p!=//v or //p/@k=//s/@k]", false),
+            ("//e[/r!=//r]", false),
+            ("/r[s[//p!=//s]/@k='3']", true),
+            ("/r[p[//q/@k=//p/@k]/@k=q/@k]", true),
+            // With a path from the element it is not the same at each.
+            ("//p[@k=/r/@k]", true),
+            ("//s[@k=/r/@k]", false),
+            ("//p[//q/@m=@k]", false),
         ],
     );
 }

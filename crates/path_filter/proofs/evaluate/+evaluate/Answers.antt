@@ -2,22 +2,24 @@ use Rattle.std.proofs.Common.{◌≡◌, ◌↔◌, Some, true, ◌⊎◌, inl, 
 use Rattle.std.specs.List.{slice_get}
 use Rattle.voe_tree.specs.Contents.{elements_in}
 use Rattle.voe_tree.specs.Shape.{depth}
-use Rattle.filter_text.specs.Size.{size_of_steps}
+use Rattle.filter_text.specs.Size.{size_of_path, size_of_steps, steps_in_path, steps_in_steps}
 use Rattle.path_filter.specs.Search.{OneOf, after}
 use Rattle.path_filter.specs.Positions.{Has}
 use Rattle.filter_text.specs.View.{steps_of, path_of, test_of}
-use Rattle.path_filter.specs.Wanted.{Suits, size_of_wanted}
+use Rattle.path_filter.specs.Wanted.{IsShallow, Suits, anything, exactly, size_of_wanted}
+use Rattle.path_filter.specs.declared.wanted.Found.TheVariants as places
 use Rattle.path_filter.specs.Evaluate.{Goes, Stays, SearchFinds, OwnAttribute, PathFindsWanted, Next, NextBelow}
 use Rattle.path_filter.proofs.PositionLaws.{fewer, after-at, search-in, search-here, search-own, search-children}
 use Rattle.path_filter.proofs.Ranks.{falls-size, falls-within, child_depth, some_depth}
-use Rattle.path_filter.proofs.EvaluateSteps.{read, one-next, one-past, element-next, text-next, element-one, search-same, Attributes, own-in, own-out, step-sizes, positive, added, not_added, advanced, skipped, contra, meets-as, below-more, document-in, document-out}
+use Rattle.path_filter.proofs.EvaluateSteps.{read, one-next, one-past, element-next, text-next, element-one, search-same, Attributes, own-in, own-out, step-sizes, positive, added, not_added, advanced, skipped, contra, meets-as, below-more, document-in, document-out, past-end}
 use Rattle.path_filter.proofs.SearchLaws.{one-at}
 use Rattle.path_filter.proofs.Views.{path-out}
+use Rattle.path_filter.proofs.DifferLaws.{all_one, if_none, if_some, not_false, one_differs}
 use Rattle.filter_text.specs.Filter.{path}
 use Rattle.std.specs.Bool.{◌==◌}
 use Rattle.filter_text.specs.declared.filter.Path.{out-Path}
 use Rattle.voe_tree.specs.declared.element.Node.TheVariants as tree
-use Rattle.path_filter.proofs.evaluate.+evaluate.Goals.{advance-then-has+then-goes, advance-then-stays, advance-else-stays, advance-then-has+else-goes, advance-else-has, own_attribute-else-meets-via-then-meets+else-suits, own_attribute-else-meets-via-else-meets, own_attributes-else-has-via-then-has+else-own_attribute, own_attributes-else-has-via-else-has, search-else-has-via-then-has+else-suits, search-else-has-via-else-has, search-in-Element+else-search, search-in-Text}
+use Rattle.path_filter.proofs.evaluate.+evaluate.Goals.{advance-then-has+then-goes, advance-then-stays, advance-else-stays, advance-then-has+else-goes, advance-else-has, own_attribute-else-meets-via-then-meets+else-suits, own_attribute-else-meets-via-else-meets, own_attributes-else-has-via-then-has+else-own_attribute, own_attributes-else-has-via-else-has, search-else-has-via-then-has+else-suits, search-else-has-via-else-has, search-in-Element+else-search, search-in-Text, first_from-in-Element+in_default-first_from, first_from-in-Text}
 use Rattle.path_filter.proofs.evaluate.+evaluate.Goals as goal
 
 pub advance-has-requires : goal.advance-has-requires
@@ -197,3 +199,151 @@ search-loop-child-preserved t c =
           (c.loop-child.invariant found)
       | search-in-Text w ↦ text-next _ _ c.loop-child.child-index _ (item ∙ ap Some w.in-Text.is) (c.loop-child.invariant found)
     ]
+
+pub differ-first-requires : goal.differ-first-requires
+differ-first-requires t c =
+    let p = size_of_path (path_of c.args.path.now) in
+    let q = size_of_path (path_of c.args.other.now) in (
+      omega (arith, c.decreases, falls-size p (p + q + 1) 0 0 c.args.root.now (omega arith) (omega arith)),
+      (c.requires.shallow, (c.requires.inside, omega (arith, c.requires.small))),
+    )
+
+pub differ-finds-requires : goal.differ-finds-requires
+differ-finds-requires t c =
+    let p = size_of_path (path_of c.args.path.now) in
+    let q = size_of_path (path_of c.args.other.now) in (
+      omega (arith, c.decreases, falls-size (q + 0) (p + q + 1) 0 0 c.args.root.now (omega arith) (omega arith)),
+      (c.requires.shallow, (c.requires.inside, (omega (arith, c.requires.small), (omega arith, c.in-Some.ensures.some.0)))),
+    )
+
+pub differ-finds-requires-else-finds : goal.differ-finds-requires-else-finds
+differ-finds-requires-else-finds t c =
+    let p = size_of_path (path_of c.args.path.now) in
+    let q = size_of_path (path_of c.args.other.now) in (
+      omega (arith, c.decreases, falls-size (q + 0) (p + q + 1) 0 0 c.args.root.now (omega arith) (omega arith)),
+      (c.requires.shallow, (c.requires.inside, (omega (arith, c.requires.small), (omega arith, tt)))),
+    )
+
+pub differ-finds-requires-then-finds-2 : goal.differ-finds-requires-then-finds-2
+differ-finds-requires-then-finds-2 t c =
+    let p = size_of_path (path_of c.args.path.now) in
+    let q = size_of_path (path_of c.args.other.now) in (
+      omega (arith, c.decreases, falls-size (p + 0) (p + q + 1) 0 0 c.args.root.now (omega arith) (omega arith)),
+      (c.requires.shallow, (c.requires.inside, (omega (arith, c.requires.small), (omega arith, c.in-Some.ensures.some.0)))),
+    )
+
+pub differ-returns-then-finds-2 : goal.differ-returns-then-finds-2
+differ-returns-then-finds-2 t c =
+    let p = path_of c.args.path.now in
+    let q = path_of c.args.other.now in (
+      (λ h. one_differs p q c.args.root.now c.args.at.now c.in-Some.found (c.finds-else-finds.ensures.0 c.if-finds-2.true) (c.finds-then-finds-2.ensures.0 h) (λ o. contra _ (c.finds.ensures.1 o) c.if-finds.false)),
+      (λ d. not_false _ (λ is. all_one p q c.args.root.now c.args.at.now c.in-Some.found (λ o. contra _ (c.finds.ensures.1 o) c.if-finds.false) (λ o. contra _ (c.finds-then-finds-2.ensures.1 o) is) d)),
+    )
+
+pub first-advance-reached-requires : goal.first-advance-reached-requires
+first-advance-reached-requires t c =
+    let steps = steps_of c.as_slice-steps.result.now in
+    let size = ap size_of_path (path-out c.args.path.now) in
+    let count = ap steps_in_path (path-out c.args.path.now) in
+    let same_size = ap (λ ss. size_of_steps (steps_of ss)) c.as_slice-steps.ensures in
+    let same_count = ap (λ ss. steps_in_steps (steps_of ss)) c.as_slice-steps.ensures in (
+      omega (arith, c.decreases, falls-size (size_of_steps steps) (size_of_path (path_of c.args.path.now)) 0 0 c.args.root.now (omega (arith, size, same_size)) (omega arith)),
+      (c.requires.shallow, (omega arith, omega (arith, count, same_count, c.requires.small))),
+    )
+
+pub first-returns-clause-some : goal.first-returns-clause-some
+first-returns-clause-some t c =
+    let steps = c.as_slice-steps.result.now in
+    let root = c.args.root.now in
+    let opened : path_of c.args.path.now ≡ path true (steps_of steps) =
+    path-out c.args.path.now ∙ ap (λ b. path b (steps_of (out-Path c.args.path.now).steps)) c.if-not-path.false ∙ ap (λ ss. path true (steps_of ss)) (sym c.as_slice-steps.ensures) in
+    if_some (λ f. IsShallow f × SearchFinds steps (Has c.advance-reached.result) root root (exactly f)) (λ f. IsShallow f × PathFindsWanted (path_of c.args.path.now) root c.args.at.now (exactly f)) c.first_from-2.result
+    (λ f (shallow, found). (
+      shallow,
+      subst (λ p. PathFindsWanted p root c.args.at.now (exactly f)) (sym opened)
+          (document-out steps (Has c.only-start.result) root (exactly f) (λ i. (c.only-start.ensures i).0)
+          (search-same steps (Has c.advance-reached.result) (Next steps (Has c.only-start.result) root root) root root (exactly f) (λ j. (c.advance-reached.ensures j).0) found)),
+    ))
+    c.first_from-2.ensures.some
+
+pub first-returns-clause-none : goal.first-returns-clause-none
+first-returns-clause-none t c =
+    let steps = c.as_slice-steps.result.now in
+    let root = c.args.root.now in
+    let opened : path_of c.args.path.now ≡ path true (steps_of steps) =
+    path-out c.args.path.now ∙ ap (λ b. path b (steps_of (out-Path c.args.path.now).steps)) c.if-not-path.false ∙ ap (λ ss. path true (steps_of ss)) (sym c.as_slice-steps.ensures) in
+    let some : length steps ≡ 0 → ⊥ = λ none. contra (length steps == 0) (rw none refl) (sym c.is_empty.ensures ∙ c.if-is_empty.false) in
+    if_none (SearchFinds steps (Has c.advance-reached.result) root root anything → ⊥) (PathFindsWanted (path_of c.args.path.now) root c.args.at.now anything → ⊥) c.first_from-2.result
+    (λ none found. none
+    (search-same steps (Next steps (Has c.only-start.result) root root) (Has c.advance-reached.result) root root anything (λ j. (c.advance-reached.ensures j).1)
+    (document-in steps (Has c.only-start.result) root anything (λ i. (c.only-start.ensures i).1) some (subst (λ p. PathFindsWanted p root c.args.at.now anything) opened found))))
+    c.first_from-2.ensures.none
+
+pub first_from-has-requires : goal.first_from-has-requires
+first_from-has-requires t c = omega (arith, fewer c.args.steps.now, c.requires.small)
+
+pub first_from-returns-then-has-clause-some : goal.first_from-returns-then-has-clause-some
+first_from-returns-then-has-clause-some t c = (
+  omega (arith, c.requires.shallow, c.requires.inside),
+  search-here c.args.steps.now (Has c.args.reached.now) c.args.root.now c.args.at.now (exactly (places.Element c.args.at)) (c.has.ensures.0 c.if-has.true) refl,
+)
+
+pub first_from-returns-in-Some-clause-some : goal.first_from-returns-in-Some-clause-some
+first_from-returns-in-Some-clause-some t c = (
+  c.in-Some.ensures.some.0,
+  search-own c.args.steps.now (Has c.args.reached.now) c.args.root.now c.args.at.now (exactly c.in-Some.found) (c.in-Some.ensures.some.1 c.args.root.now),
+)
+
+pub first_from-loop-child-init : goal.first_from-loop-child-init
+first_from-loop-child-init t c =
+    λ found. elim (search-in c.args.steps.now (Has c.args.reached.now) c.args.root.now c.args.at.now anything found) [
+      | inl here ↦ absurd (contra _ (c.has.ensures.1 here.0) c.if-has.false)
+      | inr rest ↦ (elim rest [
+        | inl own ↦ absurd (c.in_default.ensures.none c.args.root.now own)
+        | inr below ↦ subst (λ ns. OneOf (λ x. SearchFinds c.args.steps.now (Next c.args.steps.now (Has c.args.reached.now) c.args.root.now x) c.args.root.now x anything) (elements_in ns)) (sym c.as_slice-child-items.ensures) below
+      ])
+    ]
+
+pub first_from-advance-next-requires : goal.first_from-advance-next-requires
+first_from-advance-next-requires t c =
+    let at = read c.as_slice-child-items.result.now c.loop-child.child-index c.child-item.result c.loop-child-test.true c.child-item.is ∙ ap Some c.in-Element.is in
+    let deeper = child_depth c.args.at.now c.in-Element.inner c.loop-child.child-index (subst (λ ns. slice_get ns c.loop-child.child-index ≡ Some (tree.Element c.in-Element.inner)) c.as_slice-child-items.ensures at) in
+    let small = c.requires.inside in (
+      omega (arith, c.decreases, falls-within (size_of_steps (steps_of c.args.steps.now)) (size_of_steps (steps_of c.args.steps.now)) 0 (depth c.args.at.now + 1) c.args.root.now (omega arith) (omega arith)),
+      (c.requires.shallow, (omega (arith, deeper, small), c.requires.small)),
+    )
+
+pub first_from-first_from-requires : goal.first_from-first_from-requires
+first_from-first_from-requires t c =
+    let at = read c.as_slice-child-items.result.now c.loop-child.child-index c.child-item.result c.loop-child-test.true c.child-item.is ∙ ap Some c.in-Element.is in
+    let deeper = child_depth c.args.at.now c.in-Element.inner c.loop-child.child-index (subst (λ ns. slice_get ns c.loop-child.child-index ≡ Some (tree.Element c.in-Element.inner)) c.as_slice-child-items.ensures at) in
+    let small = c.requires.inside in (
+      omega (arith, c.decreases, falls-within (size_of_steps (steps_of c.args.steps.now)) (size_of_steps (steps_of c.args.steps.now)) (depth c.in-Element.inner + 1) (depth c.args.at.now + 1) c.args.root.now (omega arith) (omega (arith, deeper))),
+      (c.requires.shallow, (omega (arith, deeper, small), c.requires.small)),
+    )
+
+pub first_from-returns-in-Some-first_from-clause-some : goal.first_from-returns-in-Some-first_from-clause-some
+first_from-returns-in-Some-first_from-clause-some t c =
+    let at = read c.as_slice-child-items.result.now c.loop-child.child-index c.child-item.result c.loop-child-test.true c.child-item.is ∙ ap Some c.in-Element.is in
+    let w = exactly c.in-Some-first_from.found in
+    let found = search-same c.args.steps.now (Has c.advance-next.result) (Next c.args.steps.now (Has c.args.reached.now) c.args.root.now c.in-Element.inner) c.args.root.now c.in-Element.inner w (λ j. (c.advance-next.ensures j).0) c.in-Some-first_from.ensures.some.1 in (
+      c.in-Some-first_from.ensures.some.0,
+      search-children c.args.steps.now (Has c.args.reached.now) c.args.root.now c.args.at.now w
+          (subst (λ ns. OneOf (λ x. SearchFinds c.args.steps.now (Next c.args.steps.now (Has c.args.reached.now) c.args.root.now x) c.args.root.now x w) (elements_in ns)) c.as_slice-child-items.ensures
+          (element-one (λ x. SearchFinds c.args.steps.now (Next c.args.steps.now (Has c.args.reached.now) c.args.root.now x) c.args.root.now x w) _ c.loop-child.child-index c.in-Element.inner at found)),
+    )
+
+pub first_from-loop-child-preserved : goal.first_from-loop-child-preserved
+first_from-loop-child-preserved t c =
+    let item = read c.as_slice-child-items.result.now c.loop-child.child-index c.child-item.result c.loop-child-test.true c.child-item.is in
+    λ found. elim c.match-child.branch [
+      | first_from-in-Element+in_default-first_from w ↦ element-next _ _ c.loop-child.child-index w.in-Element.inner (item ∙ ap Some w.in-Element.is)
+          (λ p. w.in_default-first_from.ensures.none (search-same c.args.steps.now (Next c.args.steps.now (Has c.args.reached.now) c.args.root.now w.in-Element.inner) (Has w.advance-next.result) c.args.root.now w.in-Element.inner anything (λ j. (w.advance-next.ensures j).1) p))
+          (c.loop-child.invariant found)
+      | first_from-in-Text w ↦ text-next _ _ c.loop-child.child-index _ (item ∙ ap Some w.in-Text.is) (c.loop-child.invariant found)
+    ]
+
+pub first_from-returns-clause-none : goal.first_from-returns-clause-none
+first_from-returns-clause-none t c =
+    λ found. subst (λ ns. OneOf (λ x. SearchFinds c.args.steps.now (Next c.args.steps.now (Has c.args.reached.now) c.args.root.now x) c.args.root.now x anything) (elements_in ns))
+    (past-end c.as_slice-child-items.result.now c.loop-child.child-index (omega (arith, c.loop-child-test.false))) (c.loop-child.invariant found)

@@ -7,7 +7,7 @@ use Rattle.path_filter.specs.Search.{OneOf, rank, after}
 use Rattle.path_filter.specs.Positions.{Has}
 use Rattle.path_filter.specs.Meaning.{MeetsName}
 use Rattle.filter_text.specs.View.{condition_of, conditions_of, operand_of, path_of, front_of, steps_of, test_of}
-use Rattle.path_filter.specs.Wanted.{Suits, size_of_wanted}
+use Rattle.path_filter.specs.Wanted.{Suits, anything, size_of_wanted}
 use Rattle.path_filter.specs.Evaluate.{SearchFinds, OwnAttribute, Next, NextBelow}
 use Rattle.path_filter.proofs.evaluate.+evaluate.Given as goal
 
@@ -25,6 +25,21 @@ decreases-is_so l = rank (size_of_operand (operand_of l.operand.now)) 0 l.root.n
 
 abbrev pub decreases-relates : goal.decreases-relates
 decreases-relates l = rank (size_of_operand (operand_of l.operand.now)) 0 l.root.now
+
+abbrev pub decreases-compares : goal.decreases-compares
+decreases-compares l = rank (size_of_operand (operand_of l.left.now) + size_of_operand (operand_of l.right.now)) 1 l.root.now
+
+abbrev pub decreases-differs : goal.decreases-differs
+decreases-differs l = rank (size_of_operand (operand_of l.left.now) + size_of_operand (operand_of l.right.now) + 1) 0 l.root.now
+
+abbrev pub decreases-differ : goal.decreases-differ
+decreases-differ l = rank (size_of_path (path_of l.path.now) + size_of_path (path_of l.other.now) + 1) 0 l.root.now
+
+abbrev pub decreases-first : goal.decreases-first
+decreases-first l = rank (size_of_path (path_of l.path.now)) 0 l.root.now
+
+abbrev pub decreases-first_from : goal.decreases-first_from
+decreases-first_from l = rank (size_of_steps (steps_of l.steps.now)) (depth l.at.now + 1) l.root.now
 
 abbrev pub decreases-finds : goal.decreases-finds
 decreases-finds l = rank (size_of_path (path_of l.path.now) + size_of_wanted l.wanted.now) 0 l.root.now
@@ -64,3 +79,8 @@ abbrev pub invariant-search-loop-child : goal.invariant-search-loop-child
 invariant-search-loop-child l =
     SearchFinds l.steps (Has l.reached) l.root l.at l.wanted
     → OneOf (λ c. SearchFinds l.steps (Next l.steps (Has l.reached) l.root c) l.root c l.wanted) (elements_in (drop l.child-index l.child-items))
+
+abbrev pub invariant-first_from-loop-child : goal.invariant-first_from-loop-child
+invariant-first_from-loop-child l =
+    SearchFinds l.steps (Has l.reached) l.root l.at anything
+    → OneOf (λ c. SearchFinds l.steps (Next l.steps (Has l.reached) l.root c) l.root c anything) (elements_in (drop l.child-index l.child-items))
