@@ -2,7 +2,7 @@
 
 use gate_journal::{Journal, JournalFault};
 use std::test::Fail;
-use voe_disk::{CrashDisk, Disk, MemoryDisk, MemoryRack, Rack};
+use voe_disk::{CrashDisk, Disk, DiskFail, MemoryDisk, MemoryRack, Rack};
 use voe_values::{Bytes, NoMemory};
 
 const HEADER: &[u8] = b"\x01VOEVENT JRNL 1\n";
@@ -224,6 +224,35 @@ fn a_journal_tells_its_payloads_and_their_places(rt: HostRuntime) -> Result<(), 
     let disk = journal.into_disk();
     assert!(rt; disk.bytes().starts_with(HEADER));
     assert_eq!(rt; disk.faults(), 0);
+    Ok(())
+}
+
+#[test]
+fn a_journal_goes_on_when_its_payloads_are_let_go(rt: HostRuntime) -> Result<(), Fail> {
+    let mut journal = made(&rt, disk_of(&rt, b"", b"")?)?;
+    journal.append(b"ab")?;
+    let mut appender = journal.into_appender();
+    appender.append(b"c")?;
+    appender.append(b"def")?;
+    assert_eq!(rt; appender.down(), None);
+    assert_eq!(rt; appender.faults(), 0);
+    // The header has 16 bytes, the entries 7, 6 and 8: the closed gate stands at 37.
+    assert!(rt; appender.has_room(67_108_864 - 37 - 6));
+    assert!(rt; !appender.has_room(67_108_864 - 37 - 5));
+    let Ok(journal) = Journal::load(rt.alloc(), appender.into_disk()) else {
+        return Err("not loaded".into());
+    };
+    assert_eq!(rt; journal.payloads(), 3);
+    assert_eq!(rt; journal.payload(0), Some(b"ab".as_slice()));
+    assert_eq!(rt; journal.payload(1), Some(b"c".as_slice()));
+    assert_eq!(rt; journal.payload(2), Some(b"def".as_slice()));
+    let mut appender = journal.into_appender();
+    appender.arm(3, 1);
+    assert_eq!(rt; appender.append(b"g"), Err(JournalFault::Stopped));
+    assert_eq!(rt; appender.down(), Some(DiskFail::Stopped));
+    let mut disk = appender.into_disk();
+    disk.crash();
+    assert_eq!(rt; loaded(&rt, disk)?, 4);
     Ok(())
 }
 
