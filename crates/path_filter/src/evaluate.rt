@@ -54,6 +54,19 @@ pub fn are_related(left: Found<'_>, how: Comparison, right: Found<'_>) -> bool
     have_same_text(left, right) == (how == Comparison::Equal)
 }
 
+/// The same string. Where it is empty there is no tree behind it, which each comparison would have to go over.
+fn without_tree(found: Found<'_>) -> Found<'_>
+    requires { IsShallow found }
+    ensures same { text_found result ≡ text_found found.entry }
+    ensures shallow { IsShallow result }
+{
+    if have_same_text(found, Found::Text("")) {
+        Found::Text("")
+    } else {
+        found
+    }
+}
+
 #[cycle(evaluate)]
 pub fn holds(condition: &Condition, root: &Element, at: &Element) -> bool
     requires shallow { depth root.now ≤ 64 }
@@ -181,7 +194,7 @@ fn differ(path: &Path, other: &Path, root: &Element, at: &Element) -> bool
     match first(path, root, at) {
         None => false,
         Some(found) => {
-            let unlike = Wanted::Related(Comparison::Differs, found);
+            let unlike = Wanted::Related(Comparison::Differs, without_tree(found));
             finds(other, root, at, &unlike)
                 || (finds(other, root, at, &Wanted::Anything) && finds(path, root, at, &unlike))
         }

@@ -213,7 +213,7 @@ differ-finds-requires t c =
     let p = size_of_path (path_of c.args.path.now) in
     let q = size_of_path (path_of c.args.other.now) in (
       omega (arith, c.decreases, falls-size (q + 0) (p + q + 1) 0 0 c.args.root.now (omega arith) (omega arith)),
-      (c.requires.shallow, (c.requires.inside, (omega (arith, c.requires.small), (omega arith, c.in-Some.ensures.some.0)))),
+      (c.requires.shallow, (c.requires.inside, (omega (arith, c.requires.small), (omega arith, c.without_tree.ensures.shallow)))),
     )
 
 pub differ-finds-requires-else-finds : goal.differ-finds-requires-else-finds
@@ -229,15 +229,15 @@ differ-finds-requires-then-finds-2 t c =
     let p = size_of_path (path_of c.args.path.now) in
     let q = size_of_path (path_of c.args.other.now) in (
       omega (arith, c.decreases, falls-size (p + 0) (p + q + 1) 0 0 c.args.root.now (omega arith) (omega arith)),
-      (c.requires.shallow, (c.requires.inside, (omega (arith, c.requires.small), (omega arith, c.in-Some.ensures.some.0)))),
+      (c.requires.shallow, (c.requires.inside, (omega (arith, c.requires.small), (omega arith, c.without_tree.ensures.shallow)))),
     )
 
 pub differ-returns-then-finds-2 : goal.differ-returns-then-finds-2
 differ-returns-then-finds-2 t c =
     let p = path_of c.args.path.now in
     let q = path_of c.args.other.now in (
-      (λ h. one_differs p q c.args.root.now c.args.at.now c.in-Some.found (c.finds-else-finds.ensures.0 c.if-finds-2.true) (c.finds-then-finds-2.ensures.0 h) (λ o. contra _ (c.finds.ensures.1 o) c.if-finds.false)),
-      (λ d. not_false _ (λ is. all_one p q c.args.root.now c.args.at.now c.in-Some.found (λ o. contra _ (c.finds.ensures.1 o) c.if-finds.false) (λ o. contra _ (c.finds-then-finds-2.ensures.1 o) is) d)),
+      (λ h. one_differs p q c.args.root.now c.args.at.now c.without_tree.result (c.finds-else-finds.ensures.0 c.if-finds-2.true) (c.finds-then-finds-2.ensures.0 h) (λ o. contra _ (c.finds.ensures.1 o) c.if-finds.false)),
+      (λ d. not_false _ (λ is. all_one p q c.args.root.now c.args.at.now c.without_tree.result (λ o. contra _ (c.finds.ensures.1 o) c.if-finds.false) (λ o. contra _ (c.finds-then-finds-2.ensures.1 o) is) d)),
     )
 
 pub first-advance-reached-requires : goal.first-advance-reached-requires
