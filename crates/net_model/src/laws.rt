@@ -78,9 +78,9 @@ pub fn every_moment()
 {}
 
 /// A drain begins as if all edges were cut, all nodes reopened and all edges connected. It ends: it
-/// is the rounds up to and with the first that changes nothing, and over each edge it sends no more
-/// packets than identifiers were written, each of which was answered. Then every node is up, every
-/// edge is at rest, and a further round changes nothing.
+/// is the rounds up to and with the first that changes nothing, and over all edges it sends no more
+/// packets than edges times identifiers that were written, each of which was answered. Then every
+/// node is up, every edge is at rest, and a further round changes nothing.
 pub fn every_drain()
     ensures begins { (rules : Rules) (graph : Graph) (packets : List (List ℕ)) (state : State)
         → restarted graph state ≡ run rules graph packets (restart_of graph) state }

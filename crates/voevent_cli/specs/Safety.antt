@@ -31,7 +31,7 @@ drained rules graph packets before = after rules graph packets (before ++ Drain 
 
 -- what a drain behind these events leaves
 pub record IsDrained (rules : Rules) (graph : Graph) (packets : List (List ℕ)) (before : List Event) : Type 0 where
-  -- over each edge it sent no more packets than identifiers were written before
+  -- over all edges it sent no more packets than edges times identifiers that were written before
   pub few : (names : List (List ℕ)) → NamesWritten (after rules graph packets before) names
       → sendings (drained rules graph packets before).wires ≤ length graph.edges * length names
   -- each of them was answered, and every node is up
