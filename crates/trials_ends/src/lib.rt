@@ -5,3 +5,5 @@
 mod broker;
 #[cfg(test)]
 mod subscriber;
+#[cfg(test)]
+mod support;
