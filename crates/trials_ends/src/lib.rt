@@ -2,6 +2,8 @@
 #![tactic(auto)]
 
 #[cfg(test)]
+mod author;
+#[cfg(test)]
 mod broker;
 #[cfg(test)]
 mod subscriber;
