@@ -2,6 +2,10 @@
 #![tactic(auto)]
 
 #[cfg(test)]
+mod author;
+#[cfg(test)]
 mod broker;
 #[cfg(test)]
 mod subscriber;
+#[cfg(test)]
+mod support;

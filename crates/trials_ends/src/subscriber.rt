@@ -1,90 +1,102 @@
 //! A subscriber.
 
-use crate::broker::{FIRST, Said};
-use net_model::{NakCode, SubscriberStep, Verdict};
+use crate::support::{
+    BAD, FAILINGS, FIRST, Failing, OTHER, SECOND, SUBSCRIBER, Said, Told, UNFIT, disk_of, down,
+    packet_of, told_of, verdict,
+};
+use net_model::SubscriberStep;
 use std::alloc::Global;
-use std::process::Abort;
 use std::test::Fail;
 use subscriber_end::{SubscriberEnd, SubscriberEvent};
 use voe_disk::{CrashDisk, MemoryDisk};
-use voe_values::Bytes;
 
-/// Its journal, without notes.
-const NEW: &[u8] = b"\x01VOEVENT JRNL 1\n\x01\0\0\0\x0e\0s\0\x09ivo://s/x\0\0";
+type Subscriber = SubscriberEnd<MemoryDisk>;
 
 fn said(step: &SubscriberStep) -> Said {
     match step {
-        SubscriberStep::Answer {
-            verdict: Verdict::Ack { .. },
-        } => ("ack", 0),
-        SubscriberStep::Answer {
-            verdict: Verdict::Nak {
-                code: NakCode::Tree(number),
-                ..
-            },
-        } => ("no tree", *number as u64),
-        SubscriberStep::Down {
-            faults,
-            stopped: true,
-        } => ("stopped", *faults),
-        SubscriberStep::Down { faults, .. } => ("failed", *faults),
-        _ => ("another answer", 0),
+        SubscriberStep::Answer { verdict: own } => verdict(own),
+        SubscriberStep::Down { faults, stopped } => down(*faults, *stopped),
+        SubscriberStep::NoMemory => ("no memory", 0, 0),
     }
 }
 
-/// Its disk's call of this number fails; loading has four.
-fn loaded(rt: &impl Abort, alloc: Global, call: u8) -> SubscriberEnd<MemoryDisk> {
-    let (Ok(bytes), Ok(fails)) = (Bytes::of(alloc, NEW), Bytes::of(alloc, &[call])) else {
-        panic!(rt; "no memory")
-    };
-    match SubscriberEnd::load(alloc, MemoryDisk::new(alloc, bytes, fails)) {
-        Ok(end) => end,
-        Err(_) => panic!(rt; "not loaded"),
+pub fn loaded(alloc: Global, disk: MemoryDisk) -> Option<Subscriber> {
+    SubscriberEnd::load(alloc, disk).ok()
+}
+
+pub fn take(alloc: Global, end: &mut Subscriber, packet: &[u8]) -> Said {
+    match packet_of(alloc, packet) {
+        Some(packet) => said(&end.step(SubscriberEvent::Packet { packet })),
+        None => UNFIT,
     }
 }
 
-fn take(alloc: Global, end: &mut SubscriberEnd<MemoryDisk>, packet: &[u8]) -> Said {
-    match Bytes::of(alloc, packet) {
-        Ok(packet) if !packet.is_empty() && packet.len() <= 1_048_576 => {
-            said(&end.step(SubscriberEvent::Packet { packet }))
+/// How many of the bad packets are refused by their rules, one after the other.
+fn refused(alloc: Global, end: &mut Subscriber) -> usize {
+    for (number, (packet, word, rule, is_named)) in BAD.iter().enumerate() {
+        if take(alloc, end, packet) != (*word, *rule, u8::from(*is_named)) {
+            return number;
         }
-        _ => ("unfit", 0),
     }
+    BAD.len()
 }
 
-/// What is said to a packet, and how many notes are there once the disk has crashed and is loaded again.
-fn broken(rt: &impl Abort, alloc: Global, call: u8, calls: u8, fill: u8) -> (Said, usize) {
-    let mut end = loaded(rt, alloc, call);
-    end.arm(calls, fill);
-    let answer = take(alloc, &mut end, FIRST);
-    let mut disk = end.into_disk();
-    disk.crash();
-    match SubscriberEnd::load(alloc, disk) {
-        Ok(end) => (answer, end.book().notes()),
-        Err(_) => panic!(rt; "not loaded again"),
+/// Packets that come, which of the two is acknowledged, and how many notes are there afterwards.
+const ROWS: [(&[u8], u8, usize); 4] = [(FIRST, 1, 1), (FIRST, 1, 1), (OTHER, 1, 1), (SECOND, 2, 2)];
+
+/// How many of these rows are met, one after the other.
+fn met(alloc: Global, end: &mut Subscriber) -> usize {
+    for (number, (packet, named, notes)) in ROWS.iter().enumerate() {
+        if take(alloc, end, packet) != ("ack", 0, *named) || end.book().notes() != *notes {
+            return number;
+        }
     }
+    ROWS.len()
+}
+
+/// How many bad packets are refused, how many rows are met, and what is said to a packet that comes again once the
+/// subscriber is loaded again.
+fn tried(alloc: Global) -> Option<(usize, usize, Said)> {
+    let mut end = loaded(alloc, disk_of(alloc, SUBSCRIBER, 255)?)?;
+    let refused = refused(alloc, &mut end);
+    let rows = met(alloc, &mut end);
+    let mut end = loaded(alloc, end.into_disk())?;
+    Some((refused, rows, take(alloc, &mut end, OTHER)))
 }
 
 #[test]
-fn a_stop_or_a_fault_leaves_the_note_or_not(rt: HostRuntime) -> Result<(), Fail> {
-    let alloc = rt.alloc();
-    let rows = [
-        (255, 0, 1, "stopped", 0, 0),
-        (255, 1, 1, "stopped", 0, 0),
-        (255, 2, 1, "stopped", 0, 0),
-        (255, 3, 0, "stopped", 0, 0),
-        (255, 3, 1, "stopped", 0, 1),
-        (255, 3, 2, "stopped", 0, 0),
-        (255, 4, 0, "ack", 0, 1),
-        (4, 255, 1, "failed", 1, 0),
-        (5, 255, 1, "failed", 1, 0),
-        (6, 255, 1, "failed", 1, 0),
-        (7, 255, 0, "failed", 1, 0),
-        (7, 255, 1, "failed", 1, 1),
-    ];
-    for (call, calls, fill, word, faults, notes) in rows {
-        let answer = broken(&rt, alloc, call, calls, fill);
-        assert_eq!(rt; answer, ((word, faults), notes), "{call} {calls} {fill}");
+fn a_subscriber_enters_a_packet_once_and_refuses_others(rt: HostRuntime) -> Result<(), Fail> {
+    assert!(rt; tried(rt.alloc()) == Some((7, 4, ("ack", 0, 1))));
+    Ok(())
+}
+
+/// A packet over a failing disk; then the same again.
+fn broken(alloc: Global, failing: &Failing) -> Option<Told> {
+    let (call, calls, fill, _, _, _) = *failing;
+    let mut end = loaded(alloc, disk_of(alloc, SUBSCRIBER, call)?)?;
+    end.arm(calls, fill);
+    let answer = take(alloc, &mut end, FIRST);
+    let then = take(alloc, &mut end, FIRST);
+    let mut disk = end.into_disk();
+    disk.crash();
+    let mut end = loaded(alloc, disk)?;
+    let notes = end.book().notes();
+    Some((answer, then, notes, take(alloc, &mut end, FIRST)))
+}
+
+/// How many of the failings leave what they should, one after the other.
+fn left(alloc: Global) -> usize {
+    let ack = ("ack", 0, 1);
+    for (number, failing) in FAILINGS.iter().enumerate() {
+        if broken(alloc, failing) != Some(told_of(failing, 0, ack, ack, ack)) {
+            return number;
+        }
     }
+    FAILINGS.len()
+}
+
+#[test]
+fn a_stop_or_a_fault_leaves_a_subscribers_note_or_not(rt: HostRuntime) -> Result<(), Fail> {
+    assert!(rt; left(rt.alloc()) == 12);
     Ok(())
 }
