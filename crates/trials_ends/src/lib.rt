@@ -6,6 +6,8 @@ mod author;
 #[cfg(test)]
 mod broker;
 #[cfg(test)]
+mod loading;
+#[cfg(test)]
 mod subscriber;
 #[cfg(test)]
 mod support;
