@@ -6,6 +6,8 @@ mod author;
 #[cfg(test)]
 mod broker;
 #[cfg(test)]
+mod full;
+#[cfg(test)]
 mod loading;
 #[cfg(test)]
 mod subscriber;
