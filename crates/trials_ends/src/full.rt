@@ -1,7 +1,7 @@
 //! Ends whose journals are full.
 
-use crate::support::{AUTHOR, BROKER, FIRST, OTHER, SECOND, SUBSCRIBER, Said};
-use crate::{author, broker, subscriber};
+use crate::support::{BROKER, FIRST, OTHER, SECOND, SUBSCRIBER, Said};
+use crate::{broker, subscriber};
 use broker_end::Way;
 use std::alloc::Global;
 use std::test::Fail;
@@ -74,55 +74,28 @@ fn filled(
 
 const A: &str = "ivo://a/k#1";
 
-type AuthorRows = [(author::Ask, Said, usize); 3];
+type Rows = [(broker::Ask, Said, usize); 3];
 
-/// An author's journal that an answer's record would make a byte too long.
-const ONE_SHORT: Filling = (67, 1_000_000, 106_871);
+/// A broker's journal that a delivery's record would bring to 67,108,865 bytes, one more than a journal has room for.
+const ONE_SHORT: Filling = (67, 1_000_000, 106_812);
 
-const NONE_ANSWERED: AuthorRows = [
-    (author::Ask::Write(SECOND), ("full", 0, 0), 69),
-    (author::Ask::Answer(0, A, true), ("full", 0, 0), 69),
-    (author::Ask::Next(0, 0), ("packet", 0, 1), 69),
-];
-
-/// One that it makes just as long as a journal may be.
-const JUST_ENOUGH: Filling = (67, 1_000_000, 106_870);
-
-const ONE_ANSWERED: AuthorRows = [
-    (author::Ask::Write(SECOND), ("full", 0, 0), 69),
-    (author::Ask::Answer(0, A, true), ("noted", 0, 0), 70),
-    (author::Ask::Answer(1, A, true), ("full", 0, 0), 70),
-];
-
-/// What an author answers whose book has no room for an identifier.
-const MANY_WRITTEN: AuthorRows = [
-    (author::Ask::Write(SECOND), ("full", 0, 0), 65_536),
-    (author::Ask::Write(OTHER), ("known", 0, 0), 65_536),
-    (author::Ask::Answer(0, A, true), ("noted", 0, 0), 65_537),
-];
-
-type BrokerRows = [(broker::Ask, Said, usize); 3];
-
-/// A broker's journal that a delivery's record would make a byte too long.
-const ONE_SHORT_OF_LINKS: Filling = (67, 1_000_000, 106_812);
-
-const NONE_DELIVERED: BrokerRows = [
+const NONE_DELIVERED: Rows = [
     (broker::Ask::Packet(Way::Line, SECOND), ("full", 0, 2), 69),
     (broker::Ask::Acked(0, 0, A), ("full", 0, 0), 69),
     (broker::Ask::Next(0, 0, 0), ("packet", 0, 1), 69),
 ];
 
-/// One that it makes just as long as a journal may be.
-const JUST_ENOUGH_OF_LINKS: Filling = (67, 1_000_000, 106_811);
+/// One that it brings to 67,108,864 bytes.
+const JUST_ENOUGH: Filling = (67, 1_000_000, 106_811);
 
-const ONE_DELIVERED: BrokerRows = [
+const ONE_DELIVERED: Rows = [
     (broker::Ask::Packet(Way::Link, SECOND), ("full", 0, 2), 69),
     (broker::Ask::Acked(0, 0, A), ("noted", 0, 0), 70),
     (broker::Ask::Next(0, 0, 0), ("nothing", 0, 0), 70),
 ];
 
 /// What a broker answers whose book has no room for an identifier.
-const MANY_ACCEPTED: BrokerRows = [
+const MANY_ACCEPTED: Rows = [
     (
         broker::Ask::Packet(Way::Line, SECOND),
         ("full", 0, 2),
@@ -132,15 +105,8 @@ const MANY_ACCEPTED: BrokerRows = [
     (broker::Ask::Acked(0, 0, A), ("noted", 0, 0), 65_537),
 ];
 
-/// How many of these rows a full author meets.
-fn author_met(alloc: Global, filling: Filling, rows: &AuthorRows) -> Option<usize> {
-    let disk = filled(alloc, AUTHOR, 1, [b"", b""], filling)?;
-    let mut end = author::loaded(alloc, disk)?;
-    Some(author::met(alloc, &mut end, rows))
-}
-
 /// How many of these rows a full broker meets.
-fn broker_met(alloc: Global, filling: Filling, rows: &BrokerRows) -> Option<usize> {
+fn broker_met(alloc: Global, filling: Filling, rows: &Rows) -> Option<usize> {
     let disk = filled(alloc, BROKER, 4, [b"\x01\0\0", b"\0"], filling)?;
     let mut end = broker::loaded(alloc, disk)?;
     Some(broker::met(alloc, &mut end, rows))
@@ -156,23 +122,15 @@ fn taken(alloc: Global, filling: Filling) -> Option<(Said, Said, usize)> {
 }
 
 #[test]
-fn a_full_author_answers_so(rt: HostRuntime) -> Result<(), Fail> {
-    assert!(rt; author_met(rt.alloc(), ONE_SHORT, &NONE_ANSWERED) == Some(3));
-    assert!(rt; author_met(rt.alloc(), JUST_ENOUGH, &ONE_ANSWERED) == Some(3));
-    assert!(rt; author_met(rt.alloc(), MANY, &MANY_WRITTEN) == Some(3));
-    Ok(())
-}
-
-#[test]
 fn a_full_broker_answers_so(rt: HostRuntime) -> Result<(), Fail> {
-    assert!(rt; broker_met(rt.alloc(), ONE_SHORT_OF_LINKS, &NONE_DELIVERED) == Some(3));
-    assert!(rt; broker_met(rt.alloc(), JUST_ENOUGH_OF_LINKS, &ONE_DELIVERED) == Some(3));
+    assert!(rt; broker_met(rt.alloc(), ONE_SHORT, &NONE_DELIVERED) == Some(3));
+    assert!(rt; broker_met(rt.alloc(), JUST_ENOUGH, &ONE_DELIVERED) == Some(3));
     assert!(rt; broker_met(rt.alloc(), MANY, &MANY_ACCEPTED) == Some(3));
     Ok(())
 }
 
-/// A subscriber's journal that the record of the second packet would make a byte too long, and one that it makes just as
-/// long as a journal may be.
+/// A subscriber's journal that the record of the second packet would bring to 67,108,865 bytes, and one that it brings to
+/// 67,108,864.
 const ONE_SHORT_OF_A_PACKET: Filling = (67, 1_000_000, 106_764);
 
 const JUST_ENOUGH_FOR_A_PACKET: Filling = (67, 1_000_000, 106_763);

@@ -1,8 +1,6 @@
-//! Trials of ends over disks in memory.
+//! Trials of ends over disks in memory. Those of an author stand in `trials_authors`.
 #![tactic(auto)]
 
-#[cfg(test)]
-mod author;
 #[cfg(test)]
 mod broker;
 #[cfg(test)]
