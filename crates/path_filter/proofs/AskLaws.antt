@@ -1,6 +1,6 @@
 -- What is asked stays asked.
 use Rattle.std.proofs.Common.{◌≡◌, ℕ, suc, ◌≤◌, List, [], ◌∷◌, ◌-◌, length, drop, take, get_or, refl, sym, ◌∙◌, ap, arith}
-use Rattle.path_filter.specs.Plan.{Check, Checks, any_of, all_of, not_so, here, anywhere, other, no_more, more, CheckAsks, ChecksAsk, NextAsks, Asks, stage_checks}
+use Rattle.path_filter.specs.Plan.{Check, Checks, any_of, all_of, not_so, here, anywhere, compared, no_more, more, CheckAsks, ChecksAsk, NextAsks, Asks, stage_checks}
 use Rattle.voe_tree.specs.declared.element.Element.{Element}
 use Rattle.path_filter.specs.declared.plan.Stage.{Stage}
 use Rattle.path_filter.specs.declared.plan.Next.{Next}
@@ -13,7 +13,7 @@ mutual
   check_asks-more P Q wider (not_so k) asks = check_asks-more P Q wider k asks
   check_asks-more P Q wider (here i) asks = wider i asks
   check_asks-more P Q wider (anywhere i) asks = tt
-  check_asks-more P Q wider (other c) asks = tt
+  check_asks-more P Q wider (compared a how b) asks = tt
 
   pub checks_ask-more : (P Q : ℕ → Type 0) → ((i : ℕ) → P i → Q i) → (ks : Checks) → ChecksAsk P ks → ChecksAsk Q ks
   checks_ask-more P Q wider no_more asks = tt

@@ -1,28 +1,33 @@
 -- A plan that grows keeps what it means.
-use Rattle.std.proofs.Common.{◌≡◌, ◌<◌, ◌≤◌, ◌+◌, ◌↔◌, inl, inr, ℕ, zero, suc, true, false, Option, None, ◌-◌, List, [], ◌∷◌, ◌++◌, Some, length, map, take, drop, get_or, refl, sym, ◌∙◌, ap, subst, arith, append_assoc}
+use Rattle.std.proofs.Common.{◌≡◌, ◌<◌, ◌≤◌, ◌+◌, ◌↔◌, inl, inr, ℕ, zero, suc, Bool, true, false, Option, None, ◌-◌, List, [], ◌∷◌, ◌++◌, Some, length, map, take, drop, get_or, refl, sym, ◌∙◌, ap, subst, arith, append_assoc}
 use Rattle.std.proofs.Math.Seq.{take-length}
 use Rattle.std.specs.Bool.{◌==◌}
 use Rattle.std.specs.Option.{MatchOption}
 use Rattle.std.specs.List.{slice_get}
+use Rattle.voe_tree.specs.Contents.{string_of}
 use Rattle.voe_tree.specs.declared.element.Element.{Element}
 use Rattle.filter_text.specs.Filter.{Text, Path, path, Steps, arrived, step, Axis, Part, element, attribute, Test, Comparison, equal, differs, Condition, any_of, all_of, not_so, alone, compare, Conditions, Operand, found, literal, local_name}
 use Rattle.filter_text.specs.Filter as filter
-use Rattle.filter_text.specs.Size.{size_of_condition, size_of_conditions, steps_in_condition, steps_in_conditions}
-use Rattle.filter_text.specs.View.{axis_of, comparison_of, condition_of, conditions_of, front_of, part_of, path_of, steps_of, test_of}
+use Rattle.filter_text.specs.Size.{size_of_condition, size_of_conditions, steps_in_condition, steps_in_conditions, steps_in_operand, steps_in_steps}
+use Rattle.filter_text.specs.View.{axis_of, comparison_of, condition_of, conditions_of, front_of, operand_of, part_of, path_of, steps_of, test_of}
 use Rattle.filter_text.specs.declared.filter.Condition.{Condition as CodeCondition}
 use Rattle.filter_text.specs.declared.filter.Condition.TheVariants as conditions
 use Rattle.filter_text.specs.declared.filter.Comparison.{Comparison as CodeComparison}
+use Rattle.filter_text.specs.declared.filter.Comparison.TheVariants as comparisons
+use Rattle.filter_text.specs.declared.filter.Operand.{Operand as CodeOperand}
+use Rattle.filter_text.specs.declared.filter.Operand.TheVariants as operands
 use Rattle.filter_text.specs.declared.filter.Path.{Path as CodePath, out-Path}
 use Rattle.filter_text.specs.declared.filter.Step.{Step as CodeStep}
 use Rattle.path_filter.specs.Meaning.{Passes, Related}
 use Rattle.path_filter.specs.Places.{document}
 use Rattle.path_filter.specs.Places as place
-use Rattle.path_filter.specs.Plan.{Check, Checks, here, anywhere, other, no_more, more, CheckHolds, EachHolds, OneHolds, GoesOn, Arrives, Owns, EndsAt, StageFinds, At, newest, stage_at, IsOfDocument, CheckRefers, ChecksRefer, NextRefers, StageRefers, IsMade, FindsSought, Suited, stage_checks, check_of, checks_of}
+use Rattle.path_filter.specs.Plan.{Check, Checks, here, anywhere, compared, side, no_more, more, CheckHolds, EachHolds, OneHolds, GoesOn, Arrives, Owns, EndsAt, StageFinds, At, newest, stage_at, IsOfDocument, AreGuards, CheckRefers, ChecksRefer, way_of, NextRefers, StageRefers, IsMade, FindsSought, Suited, stage_checks, check_of, checks_of, guards_of}
 use Rattle.path_filter.specs.Plan as plans
-use Rattle.path_filter.specs.Planned.{Grows, Means, AllMean, Looks, Starts, IsLast, Follows, Stands, PlanPasses, LastOfDocument, IsPlanOf}
-use Rattle.path_filter.specs.Search.{Each, One}
+use Rattle.path_filter.specs.Planned.{Grows, Means, AllMean, Looks, Starts, IsFromDocument, IsLast, IsText, Follows, Stands, PlanPasses, LastOfDocument, IsPlanOf, inner_steps, inner_steps_in}
+use Rattle.path_filter.specs.Search.{Each, Is, One}
 use Rattle.path_filter.specs.declared.plan.Check.{Check as CodeCheck}
 use Rattle.path_filter.specs.declared.plan.Check.TheVariants as checks
+use Rattle.path_filter.specs.declared.plan.Side.{Side as CodeSide}
 use Rattle.path_filter.specs.declared.plan.Next.{Next}
 use Rattle.path_filter.specs.declared.plan.Next.TheVariants as next
 use Rattle.path_filter.specs.declared.plan.Sought.{Sought}
@@ -31,8 +36,8 @@ use Rattle.path_filter.specs.declared.plan.Stage.{Stage}
 use Rattle.path_filter.proofs.PlaceLaws.{passes-forth, passes-back}
 use Rattle.path_filter.proofs.PlanLaws.{at_older, at_self, by_path, check_same, document_older, refers_asks, refers_sees, newest_length, newest_more, stage_self}
 use Rattle.path_filter.proofs.SearchLaws.{one-at, one-found}
-use Rattle.path_filter.proofs.CheckViews.{any-out, all-out}
-use Rattle.path_filter.proofs.Views.{any_of-out, all_of-out, path-out, front-out}
+use Rattle.path_filter.proofs.CheckViews.{any-out, all-out, compared-out}
+use Rattle.path_filter.proofs.Views.{any_of-out, all_of-out, path-out, front-out, literal-out}
 
 -- ---- more stages
 
@@ -52,6 +57,17 @@ document_more : (added old : List Stage) (j : ℕ) → IsOfDocument old j → Is
 document_more [] old j d = d
 document_more (x ∷ added) old j d = document_older x (added ++ old) j (document_more added old j d)
 
+-- what the check stands for holds as before
+stands_more : (added old : List Stage) (k : Check) (Holds : Element → Element → Type 0) → CheckRefers old k
+    → ((root e : Element) → CheckHolds (λ j. At old root j e) (λ j. At old root j (document root)) root e k ↔ Holds root e)
+    → (root e : Element) → CheckHolds (λ j. At (added ++ old) root j e) (λ j. At (added ++ old) root j (document root)) root e k ↔ Holds root e
+stands_more added old k Holds refers stands root e =
+    let same = check_same (λ j. At (added ++ old) root j e) (λ j. At old root j e) (λ j. At (added ++ old) root j (document root)) (λ j. At old root j (document root)) root e k
+    (refers_asks _ old (λ j lt. by_path _ _ (at_more added old root j e lt)) k refers)
+    (refers_sees _ old (λ j lt _. by_path _ _ (at_more added old root j (document root) lt)) k refers) in
+    let means = stands root e in
+    ((λ h. means.0 (same.0 h)), (λ h. same.1 (means.1 h)))
+
 mutual
   refers_more : (added old : List Stage) (k : Check) → CheckRefers old k → CheckRefers (added ++ old) k
   refers_more added old (plans.any_of ks) r = refer_more added old ks r
@@ -59,22 +75,23 @@ mutual
   refers_more added old (plans.not_so k) r = refers_more added old k r
   refers_more added old (here i) r = omega (arith, r, longer added old)
   refers_more added old (anywhere i) r = (omega (arith, r.0, longer added old), document_more added old i r.1)
-  refers_more added old (other c) r = r
+  refers_more added old (compared (side a gs) how (side b hs)) r = (guards_more added old (way_of a) gs r.0, guards_more added old (way_of b) hs r.1, r.2)
 
   refer_more : (added old : List Stage) (ks : Checks) → ChecksRefer old ks → ChecksRefer (added ++ old) ks
   refer_more added old no_more r = tt
   refer_more added old (more k ks) r = (refers_more added old k r.0, refer_more added old ks r.1)
 
+  guards_more : (added old : List Stage) (ss : Steps) (gs : Checks) → AreGuards old ss gs → AreGuards (added ++ old) ss gs
+  guards_more added old arrived no_more g = tt
+  guards_more added old arrived (more k ks) g = absurd g
+  guards_more added old (step axis part test cs ss) no_more g = absurd g
+  guards_more added old (step axis part test cs ss) (more k ks) g = (refers_more added old k g.0, (λ root e. stands_more added old k (λ x f. Each cs x f) g.0 g.1 root e), guards_more added old ss ks g.2)
+
 means_more : (added old : List Stage) (k : Check) (c : Condition) → Means old k c → Means (added ++ old) k c
-means_more added old k c m = record {
-  refers = refers_more added old k m.refers;
-  holds = λ root e.
-      let same = check_same (λ j. At (added ++ old) root j e) (λ j. At old root j e) (λ j. At (added ++ old) root j (document root)) (λ j. At old root j (document root)) root e k
-      (refers_asks _ old (λ j lt. by_path _ _ (at_more added old root j e lt)) k m.refers)
-      (refers_sees _ old (λ j lt _. by_path _ _ (at_more added old root j (document root) lt)) k m.refers) in
-      let means = m.holds root e in
-      ((λ h. means.0 (same.0 h)), (λ h. same.1 (means.1 h)));
-}
+means_more added old k c m = record { refers = refers_more added old k m.refers; holds = stands_more added old k (λ root e. Is c root e) m.refers m.holds }
+
+pub guards_grown : (old new : List Stage) (n : ℕ) (ss : Steps) (gs : Checks) → Grows old new n → AreGuards old ss gs → AreGuards new ss gs
+guards_grown old new n ss gs g guards = subst (λ p. AreGuards p ss gs) (sym g.extends) (guards_more g.added old ss gs guards)
 
 all_mean_more : (added old : List Stage) (ks : Checks) (cs : Conditions) → AllMean old ks cs → AllMean (added ++ old) ks cs
 all_mean_more added old no_more filter.no_more m = tt
@@ -213,6 +230,82 @@ compare_turned plan k p how t l = record {
     (λ (u, s, is, finds, related). both.1 (s, finds, turned (comparison_of how) t s (subst (λ z. Related (comparison_of how) z s) is related))),
   );
 }
+
+pub compared_means : (plan : List Stage) (a : CodeSide) (how : CodeComparison) (b : CodeSide) → AreGuards plan (way_of (operand_of a.operand)) (guards_of a) → AreGuards plan (way_of (operand_of b.operand)) (guards_of b)
+    → steps_in_operand (operand_of a.operand) + steps_in_operand (operand_of b.operand) ≤ 512 → Means plan (check_of (checks.Compare a how b)) (compare (operand_of a.operand) (comparison_of how) (operand_of b.operand))
+compared_means plan a how b one other few =
+    subst (λ k. Means plan k (compare (operand_of a.operand) (comparison_of how) (operand_of b.operand))) (sym (compared-out a how b)) record { refers = (one, other, few); holds = λ root e. ((λ h. h), (λ h. h)) }
+
+pub not_empty_means : (plan : List Stage) (o : Operand) → IsText o → Means plan (compared (side o no_more) differs (side (literal []) no_more)) (alone o)
+not_empty_means plan (found way) text = absurd text
+not_empty_means plan (literal t) text = record {
+  refers = (tt, tt, omega arith);
+  holds = λ root e. ((λ (s, u, one, none, other) is. other (one ∙ is ∙ sym none)), (λ some. (t, [], refl, refl, some)));
+}
+not_empty_means plan local_name text = record {
+  refers = (tt, tt, omega arith);
+  holds = λ root e. ((λ (s, u, one, none, other) is. other (one ∙ is ∙ sym none)), (λ some. (e.local, [], refl, refl, some)));
+}
+
+pub not_empty_out : (plan : List Stage) (o : CodeOperand) (gs hs : List CodeCheck) (t : Text) → gs ≡ [] → hs ≡ [] → t ≡ [] → IsText (operand_of o)
+    → Means plan (check_of (checks.Compare record { operand = o; guards = gs } comparisons.Differs record { operand = operands.Literal t; guards = hs })) (alone (operand_of o))
+not_empty_out plan o gs hs t none nothing empty text =
+    let right : CodeSide = record { operand = operands.Literal t; guards = hs } in
+    let opened : check_of (checks.Compare record { operand = o; guards = gs } comparisons.Differs right) ≡ compared (side (operand_of o) no_more) differs (side (literal []) no_more) =
+    compared-out record { operand = o; guards = gs } comparisons.Differs right
+    ∙ ap (λ g. compared (side (operand_of o) (checks_of (map check_of g))) differs (side (operand_of (operands.Literal t)) (checks_of (map check_of hs)))) none
+    ∙ ap (λ h. compared (side (operand_of o) no_more) differs (side (operand_of (operands.Literal t)) (checks_of (map check_of h)))) nothing
+    ∙ ap (λ x. compared (side (operand_of o) no_more) differs (side x no_more)) (literal-out t ∙ ap literal empty) in
+    subst (λ k. Means plan k (alone (operand_of o))) (sym opened) (not_empty_means plan (operand_of o) text)
+
+pub comparison_means : (middle new : List Stage) (n : ℕ) (a b : CodeSide) (left right : CodeOperand) (how : CodeComparison) → a.operand ≡ left → b.operand ≡ right
+    → AreGuards middle (way_of (operand_of left)) (guards_of a) → Grows middle new n → AreGuards new (way_of (operand_of right)) (guards_of b) → steps_in_operand (operand_of left) + steps_in_operand (operand_of right) ≤ 512
+    → Means new (check_of (checks.Compare a how b)) (compare (operand_of left) (comparison_of how) (operand_of right))
+comparison_means middle new n a b left right how one other guarded grows others few =
+    let k = check_of (checks.Compare a how b) in
+    let first = subst (λ l. AreGuards new (way_of (operand_of l)) (guards_of a)) (sym one) (guards_grown middle new n (way_of (operand_of left)) (guards_of a) grows guarded) in
+    let second = subst (λ l. AreGuards new (way_of (operand_of l)) (guards_of b)) (sym other) others in
+    let steps = ap (λ l. steps_in_operand (operand_of l)) one in
+    let other_steps = ap (λ l. steps_in_operand (operand_of l)) other in
+    subst (λ l. Means new k (compare (operand_of l) (comparison_of how) (operand_of right))) one
+    (subst (λ r. Means new k (compare (operand_of a.operand) (comparison_of how) (operand_of r))) other
+    (compared_means new a how b first second (omega (arith, few, steps, other_steps))))
+
+-- a path without steps names where it starts
+pub start_means : (plan : List Stage) (p : CodePath) → steps_of (out-Path p).steps ≡ arrived → Means plan (plans.all_of no_more) (alone (found (path_of p)))
+start_means plan p none = subst (λ q. Means plan (plans.all_of no_more) (alone (found q))) (sym (path-out p ∙ ap (path (out-Path p).is_absolute) none)) (by (out-Path p).is_absolute)
+  where
+    by : (absolute : Bool) → Means plan (plans.all_of no_more) (alone (found (path absolute arrived)))
+    by true = record { refers = tt; holds = λ root e. ((λ _. (string_of (document root), refl)), (λ _. tt)) }
+    by false = record { refers = tt; holds = λ root e. ((λ _. (string_of e, refl)), (λ _. tt)) }
+
+-- ---- growth
+
+inner_le : (ss : Steps) → inner_steps ss ≤ steps_in_steps ss
+inner_le arrived = omega arith
+inner_le (step axis part test cs ss) = omega (arith, inner_le ss)
+
+pub inner_operand_le : (o : Operand) → inner_steps_in o ≤ steps_in_operand o
+inner_operand_le (found (path absolute ss)) = inner_le ss
+inner_operand_le (literal text) = omega arith
+inner_operand_le local_name = omega arith
+
+inner_less : (ss : Steps) → 0 < steps_in_steps ss → inner_steps ss < steps_in_steps ss
+inner_less arrived some = absurd (omega (arith, some))
+inner_less (step axis part test cs ss) some = omega (arith, inner_le ss)
+
+pub inner_operand_less : (o : Operand) → IsFromDocument o → inner_steps_in o < steps_in_operand o
+inner_operand_less (found (path true ss)) some = inner_less ss some
+inner_operand_less (found (path false ss)) some = absurd some
+inner_operand_less (literal text) some = absurd some
+inner_operand_less local_name some = absurd some
+
+pub inner_snoc : (ss : List CodeStep) (x : CodeStep) → inner_steps (steps_of (ss ++ x ∷ [])) ≡ inner_steps (steps_of ss) + steps_in_conditions (conditions_of (map condition_of x.conditions))
+inner_snoc [] x = ap (λ f. inner_steps (f arrived)) (front-out x) ∙ (omega arith)
+inner_snoc (y ∷ ss) x =
+    let whole = ap (λ f. inner_steps (f (steps_of (ss ++ x ∷ [])))) (front-out y) in
+    let front = ap (λ f. inner_steps (f (steps_of ss))) (front-out y) in
+    omega (arith, whole, front, inner_snoc ss x)
 
 -- ---- steps
 

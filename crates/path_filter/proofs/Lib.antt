@@ -14,6 +14,7 @@ pub mod MarkLaws
 pub mod PlanLaws
 pub mod HasLaws
 pub mod PrefixLaws
+pub mod GuardLaws
 pub mod GrowLaws
 pub mod CheckViews
 pub mod LinkBits

@@ -8,7 +8,7 @@ use Rattle.filter_text.specs.Filter.{Axis, child, descendant, element}
 use Rattle.filter_text.specs.View.{axis_of, part_of, test_of}
 use Rattle.path_filter.specs.Meaning.{MeetsName}
 use Rattle.path_filter.specs.Places.{document, element_below}
-use Rattle.path_filter.specs.Plan.{Check, Checks, any_of, all_of, not_so, here, anywhere, other, no_more, more, CheckHolds, EachHolds, OneHolds, GoesOn, Arrives, Owns, Walks, Holds, StageFinds, At, newest, newest_onto, stage_at, IsOfDocument, CheckRefers, ChecksRefer, NextRefers, StageRefers, IsMade, FromChild, stage_checks, CheckAsks, ChecksAsk, NextAsks, Asks, Knows}
+use Rattle.path_filter.specs.Plan.{Check, Checks, any_of, all_of, not_so, here, anywhere, compared, no_more, more, CheckHolds, EachHolds, OneHolds, GoesOn, Arrives, Owns, Walks, Holds, StageFinds, At, newest, newest_onto, stage_at, IsOfDocument, CheckRefers, ChecksRefer, NextRefers, StageRefers, IsMade, FromChild, stage_checks, CheckAsks, ChecksAsk, NextAsks, Asks, Knows}
 use Rattle.path_filter.specs.Search.{OneOf}
 use Rattle.path_filter.specs.declared.plan.Next.{Next}
 use Rattle.path_filter.specs.declared.plan.Next.TheVariants as next
@@ -137,7 +137,7 @@ abbrev mutual
   CheckSees Seen (not_so k) = CheckSees Seen k
   CheckSees Seen (here i) = Unit {0}
   CheckSees Seen (anywhere i) = Seen i
-  CheckSees Seen (other c) = Unit {0}
+  CheckSees Seen (compared a how b) = Unit {0}
 
   pub ChecksSee : (ℕ → Type 0) → Checks → Type 0
   ChecksSee Seen no_more = Unit {0}
@@ -150,7 +150,7 @@ mutual
   check_same H G T U root e (not_so k) asks sees = let both = check_same H G T U root e k asks sees in ((λ n h. n (both.1 h)), (λ n h. n (both.0 h)))
   check_same H G T U root e (here i) asks sees = asks
   check_same H G T U root e (anywhere i) asks sees = sees
-  check_same H G T U root e (other c) asks sees = ((λ h. h), (λ h. h))
+  check_same H G T U root e (compared a how b) asks sees = ((λ h. h), (λ h. h))
 
   pub each_same : (H G T U : ℕ → Type 0) (root e : Element) (ks : Checks) → ChecksAsk (λ j. H j ↔ G j) ks → ChecksSee (λ j. T j ↔ U j) ks → EachHolds H T root e ks ↔ EachHolds G U root e ks
   each_same H G T U root e no_more asks sees = ((λ h. h), (λ h. h))
@@ -189,7 +189,7 @@ mutual
   refers_asks P earlier each (not_so k) refers = refers_asks P earlier each k refers
   refers_asks P earlier each (here i) refers = each i refers
   refers_asks P earlier each (anywhere i) refers = tt
-  refers_asks P earlier each (other c) refers = tt
+  refers_asks P earlier each (compared a how b) refers = tt
 
   pub refer_asks : (P : ℕ → Type 0) (earlier : List Stage) → ((j : ℕ) → j < length earlier → P j) → (ks : Checks) → ChecksRefer earlier ks → ChecksAsk P ks
   refer_asks P earlier each no_more refers = tt
@@ -202,7 +202,7 @@ mutual
   refers_sees P earlier each (not_so k) refers = refers_sees P earlier each k refers
   refers_sees P earlier each (here i) refers = tt
   refers_sees P earlier each (anywhere i) refers = each i refers.0 refers.1
-  refers_sees P earlier each (other c) refers = tt
+  refers_sees P earlier each (compared a how b) refers = tt
 
   pub refer_sees : (P : ℕ → Type 0) (earlier : List Stage) → ((j : ℕ) → j < length earlier → IsOfDocument earlier j → P j) → (ks : Checks) → ChecksRefer earlier ks → ChecksSee P ks
   refer_sees P earlier each no_more refers = tt
@@ -329,13 +329,13 @@ found_child plan i x root e b one = (unfolded plan i x root e b).1 (by one-of.3)
 -- ---- bits in place of what is found
 
 mutual
-  both_asks : (A P : ℕ → Type 0) (earlier : List Stage) → ((j : ℕ) → j < length earlier → A j → P j) → (k : Check) → CheckAsks A k → CheckRefers earlier k → CheckAsks P k
+  pub both_asks : (A P : ℕ → Type 0) (earlier : List Stage) → ((j : ℕ) → j < length earlier → A j → P j) → (k : Check) → CheckAsks A k → CheckRefers earlier k → CheckAsks P k
   both_asks A P earlier each (any_of ks) asks refers = both_ask A P earlier each ks asks refers
   both_asks A P earlier each (all_of ks) asks refers = both_ask A P earlier each ks asks refers
   both_asks A P earlier each (not_so k) asks refers = both_asks A P earlier each k asks refers
   both_asks A P earlier each (here i) asks refers = each i refers asks
   both_asks A P earlier each (anywhere i) asks refers = tt
-  both_asks A P earlier each (other c) asks refers = tt
+  both_asks A P earlier each (compared a how b) asks refers = tt
 
   both_ask : (A P : ℕ → Type 0) (earlier : List Stage) → ((j : ℕ) → j < length earlier → A j → P j) → (ks : Checks) → ChecksAsk A ks → ChecksRefer earlier ks → ChecksAsk P ks
   both_ask A P earlier each no_more asks refers = tt

@@ -5,12 +5,12 @@ use Rattle.std.specs.List.{slice_get}
 use Rattle.voe_tree.specs.declared.element.Element.{Element}
 use Rattle.path_filter.specs.Known.{KnownBelow}
 use Rattle.path_filter.specs.Places.{document}
-use Rattle.path_filter.specs.Plan.{Check, Checks, any_of, all_of, not_so, here, anywhere, other, no_more, more, At, newest, newest_onto, stage_at, stage_checks, IsOfDocument, IsMade, StagesAreSmall, Knows, CheckRefers, ChecksRefer, NextRefers, CheckIsSmall, ChecksAreSmall, NextIsSmall}
+use Rattle.path_filter.specs.Plan.{Check, Checks, any_of, all_of, not_so, here, anywhere, compared, no_more, more, At, newest, newest_onto, stage_at, stage_checks, IsOfDocument, IsMade, StagesAreSmall, Knows, CheckRefers, ChecksRefer, NextRefers, CheckIsSmall, ChecksAreSmall, NextIsSmall, StageRefers, size_of_checks, weight}
 use Rattle.path_filter.specs.Planned.{LastOfDocument}
 use Rattle.path_filter.specs.declared.plan.Next.{Next}
 use Rattle.path_filter.specs.declared.plan.Next.TheVariants as next
 use Rattle.path_filter.specs.declared.plan.Stage.{Stage}
-use Rattle.path_filter.proofs.EvaluateSteps.{below-more}
+use Rattle.path_filter.proofs.EvaluateSteps.{below-more, from-place}
 use Rattle.path_filter.proofs.PlaceLaws.{same_some}
 use Rattle.path_filter.proofs.PlanLaws.{at_onto, stage_onto, stage_get, newest_length, newest_more, document_within}
 
@@ -75,6 +75,28 @@ one_known plan i y Old New root at lt new old = record {
     flagged : IsOfDocument (newest plan) i → y.of_document ≡ true
     flagged (x, there, is) = let same = same_some (stage_at (newest plan) i) x y there (stage_get plan i y at) in subst (λ z. z.of_document ≡ true) same is
 
+-- the front before a stage knows all its paths from the document
+pub front_knows : (plan : List Stage) (i : ℕ) (Known : ℕ → Type 0) (root : Element) → i < length plan → Knows Known (newest plan) root
+    → (j : ℕ) → IsOfDocument (newest (take i plan)) j → Known j ↔ At (newest (take i plan)) root j (document root)
+front_knows plan i Known root lt knows j (x, at, is) =
+    let le : i ≤ length plan = omega (arith, lt) in
+    let small : j < i = omega (arith, document_within (newest (take i plan)) j (x, at, is), front_length plan i le) in
+    let right = knows j (omega (arith, small, lt, newest_length plan [])) (x, stage_front plan i j le small ∙ at, is) in
+    let same = both_ways _ _ (at_front plan i root j (document root) le small) in
+    ((λ k. same.0 (right.0 k)), (λ a. right.1 (same.1 a)))
+
+-- a stage refers to the front before it
+pub refers_front : (plan : List Stage) (i : ℕ) (x : Stage) → IsMade (newest plan) → slice_get plan i ≡ Some x → StageRefers (newest (take i plan)) x
+refers_front plan i x made at = (made_onto (drop (i + 1) plan) (x ∷ newest (take i plan)) (subst IsMade (whole plan i ∙ ap (newest_onto (newest (take i plan))) (from-place plan i x at)) made)).0
+
+pub front_weight : (plan : List Stage) (i : ℕ) (x : Stage) → slice_get plan i ≡ Some x → weight (take i plan) + size_of_checks (stage_checks x) + 4 ≤ weight plan
+front_weight [] i x at = absurd (let bad : ⊥ = cc in bad)
+front_weight (y ∷ plan) zero x at =
+    let same : y ≡ x = cc in
+    let size = ap (λ z. size_of_checks (stage_checks z)) same in
+    omega (arith, size)
+front_weight (y ∷ plan) (suc i) x at = omega (arith, front_weight plan i x at)
+
 pub all_known : (plan : List Stage) (n : ℕ) (Known : ℕ → Type 0) (root : Element) → length plan ≤ n → KnownBelow n Known (newest plan) root
     → (j : ℕ) → IsOfDocument (newest plan) j → Known j ↔ At (newest plan) root j (document root)
 all_known plan n Known root le below j of_document = below.right j (omega (arith, document_within (newest plan) j of_document, newest_length plan [])) of_document
@@ -82,13 +104,13 @@ all_known plan n Known root le below j of_document = below.right j (omega (arith
 -- ---- positions of a plan are small
 
 mutual
-  refers_small : (earlier : List Stage) (k : Check) → length earlier ≤ 512 → CheckRefers earlier k → CheckIsSmall k
+  pub refers_small : (earlier : List Stage) (k : Check) → length earlier ≤ 512 → CheckRefers earlier k → CheckIsSmall k
   refers_small earlier (any_of ks) few r = refer_small earlier ks few r
   refers_small earlier (all_of ks) few r = refer_small earlier ks few r
   refers_small earlier (not_so k) few r = refers_small earlier k few r
   refers_small earlier (here i) few r = omega (arith, r, few)
   refers_small earlier (anywhere i) few r = omega (arith, r.0, few)
-  refers_small earlier (other c) few r = r
+  refers_small earlier (compared a how b) few r = tt
 
   refer_small : (earlier : List Stage) (ks : Checks) → length earlier ≤ 512 → ChecksRefer earlier ks → ChecksAreSmall ks
   refer_small earlier no_more few r = tt

@@ -8,7 +8,10 @@ use Rattle.voe_tree.specs.declared.element.Node.TheOpen.{Node-F}
 use Rattle.voe_tree.specs.declared.element.Node.TheFolds.{fold-roll-Node}
 use Rattle.voe_tree.specs.declared.element.Node.TheVariants as tree
 use Rattle.voe_tree.specs.Shape.{depth, greatest, height, node_depth, element_depth}
+use Rattle.path_filter.specs.Contexts.{work}
+use Rattle.path_filter.specs.Plan.{weight}
 use Rattle.path_filter.specs.Search.{rank}
+use Rattle.path_filter.specs.declared.context.Context.{Context}
 
 pub depth_out : (e : Element) → depth e ≡ suc (greatest (map height e.children))
 depth_out e = fold_out-Element ℕ ℕ node_depth element_depth e
@@ -27,16 +30,22 @@ among (n ∷ ns) (suc k) c at = let below = among ns k c at in omega (arith, bel
 pub child_depth : (e c : Element) (k : ℕ) → slice_get e.children k ≡ Some (tree.Element c) → depth c < depth e
 child_depth e c k at = omega (arith, among e.children k c at, depth_out e)
 
-pub falls-size : (a b x y : ℕ) (root : Element) → a < b → x < depth root + 2 → rank a x root < rank b y root
+pub falls-size : (a b x y : ℕ) (root : Element) → a < b → x < 2 * depth root + 4 → rank a x root < rank b y root
 falls-size a b x y root smaller within =
-    let whole = mul-le (a + 1) (depth root + 2) b (depth root + 2) (omega (arith, smaller)) (omega arith) in
-    let parts : (a + 1) * (depth root + 2) ≡ a * (depth root + 2) + (depth root + 2) = grind arith in
+    let whole = mul-le (a + 1) (2 * depth root + 4) b (2 * depth root + 4) (omega (arith, smaller)) (omega arith) in
+    let parts : (a + 1) * (2 * depth root + 4) ≡ a * (2 * depth root + 4) + (2 * depth root + 4) = grind arith in
     omega (arith, whole, parts, within)
 
 pub falls-within : (a b x y : ℕ) (root : Element) → a ≤ b → x < y → rank a x root < rank b y root
 falls-within a b x y root le within =
-    let whole = mul-le a (depth root + 2) b (depth root + 2) le (omega arith) in
+    let whole = mul-le a (2 * depth root + 4) b (2 * depth root + 4) le (omega arith) in
     omega (arith, whole, within)
 
 pub some_depth : (e : Element) → 0 < depth e
 some_depth e = omega (arith, depth_out e)
+
+pub falls-work : (c : Context) (a b x y : ℕ) → a < b → x < 2 * depth c.root.now + 4 → work c a x < work c b y
+falls-work c a b x y smaller within = falls-size (weight c.plan.now + a) (weight c.plan.now + b) x y c.root.now (omega (arith, smaller)) within
+
+pub falls-work-within : (c : Context) (a b x y : ℕ) → a ≤ b → x < y → work c a x < work c b y
+falls-work-within c a b x y le within = falls-within (weight c.plan.now + a) (weight c.plan.now + b) x y c.root.now (omega (arith, le)) within

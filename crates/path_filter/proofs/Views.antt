@@ -1,6 +1,6 @@
 -- The data of a filter, one level at a time.
 use Rattle.std.proofs.Common.{◌≡◌, sym, ◌∙◌, ap, List, map}
-use Rattle.filter_text.specs.Filter.{Path, path, step, Condition, any_of, all_of, not_so, alone, compare, Operand, found}
+use Rattle.filter_text.specs.Filter.{Text, Path, path, step, Condition, any_of, all_of, not_so, alone, compare, Operand, found, literal}
 use Rattle.filter_text.specs.View.{Front, condition_of, conditions_of, operand_of, path_of, front_of, steps_of, axis_of, part_of, test_of, comparison_of, condition_data, operand_data, path_data, step_data}
 use Rattle.filter_text.specs.declared.filter.Path.{Path as CodePath, out-Path, fold_out-Path}
 use Rattle.filter_text.specs.declared.filter.Step.{Step as CodeStep, fold_out-Step}
@@ -35,3 +35,6 @@ compare-out a how b = ap condition_of (sym (conditions.rolls-Compare a how b)) �
 
 pub found-out : (p : CodePath) → operand_of (operands.Path p) ≡ found (path_of p)
 found-out p = ap operand_of (sym (operands.rolls-Path p)) ∙ fold-roll-Operand Condition Operand Path Front condition_data operand_data path_data step_data (Operand-F.Path p)
+
+pub literal-out : (t : Text) → operand_of (operands.Literal t) ≡ literal t
+literal-out t = ap operand_of (sym (operands.rolls-Literal t)) ∙ fold-roll-Operand Condition Operand Path Front condition_data operand_data path_data step_data (Operand-F.Literal t)

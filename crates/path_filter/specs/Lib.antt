@@ -2,11 +2,12 @@ pub mod Places
 pub mod Meaning
 pub mod Positions
 pub mod Search
-pub mod Wanted
-pub mod Evaluate
 pub mod Sets
 pub mod Cursors
 pub mod Plan
+pub mod Contexts
+pub mod Wanted
+pub mod Evaluate
 pub mod Marks
 pub mod Known
 pub mod Planned

@@ -1,20 +1,22 @@
 -- What the positions of a plan find.
-use Rattle.std.specs.Prelude.{◌≡◌, ℕ, suc, ◌+◌, ◌<◌, ◌≤◌, ◌⊎◌, ◌==◌, true, if◌then◌else◌, List, [], ◌∷◌, Option, Some, None, map, length}
+use Rattle.std.specs.Prelude.{◌≡◌, ◌↔◌, ℕ, suc, ◌+◌, ◌<◌, ◌≤◌, ◌⊎◌, ◌==◌, true, if◌then◌else◌, List, [], ◌∷◌, Option, Some, None, map, length}
 use Rattle.std.specs.Bool.{MatchBool}
 use Rattle.voe_tree.specs.Contents.{string_of}
 use Rattle.voe_tree.specs.declared.element.Element.{Element}
-use Rattle.filter_text.specs.Filter.{Text, Axis, descendant, element, attribute, Steps, Condition}
-use Rattle.filter_text.specs.Size.{steps_in_condition}
-use Rattle.filter_text.specs.View.{axis_of, comparison_of, condition_of, part_of, test_of}
+use Rattle.filter_text.specs.Filter.{Text, Axis, descendant, element, attribute, Comparison, Path, path, Steps, arrived, step, Conditions, Operand, found}
+use Rattle.filter_text.specs.Filter as filter
+use Rattle.filter_text.specs.Size.{steps_in_operand}
+use Rattle.filter_text.specs.View.{axis_of, comparison_of, operand_of, part_of, test_of}
 use Rattle.path_filter.specs.Places.{document, element_below}
 use Rattle.path_filter.specs.Meaning.{Holder, Leads, MeetsName, Related}
-use Rattle.path_filter.specs.Search.{Finds, Is, OneOf}
+use Rattle.path_filter.specs.Search.{Each, Finds, Is, OneOf}
 use Rattle.path_filter.specs.declared.plan.Sought.{Sought}
 use Rattle.path_filter.specs.declared.plan.Sought.TheVariants as sought
 use Rattle.path_filter.specs.declared.plan.Next.{Next}
 use Rattle.path_filter.specs.declared.plan.Next.TheVariants as next
 use Rattle.path_filter.specs.declared.plan.Check.{Check as CodeCheck, fold-Check}
-use Rattle.path_filter.specs.declared.plan.Check.TheOpen.{Check-F}
+use Rattle.path_filter.specs.declared.plan.Check.TheOpen.{Check-F, Side-F}
+use Rattle.path_filter.specs.declared.plan.Side.{Side as CodeSide, fold-Side}
 use Rattle.path_filter.specs.declared.plan.Stage.{Stage}
 
 -- ---- conditions as data
@@ -26,7 +28,11 @@ mutual
     not_so : Check → Check
     here : ℕ → Check
     anywhere : ℕ → Check
-    other : Condition → Check
+    compared : Side → Comparison → Side → Check
+
+  -- an operand, with a check in place of the conditions of each step of its path
+  pub data Side : Type 0 where
+    side : Operand → Checks → Side
 
   pub data Checks : Type 0 where
     no_more : Checks
@@ -36,16 +42,28 @@ abbrev pub checks_of : List Check → Checks
 checks_of [] = no_more
 checks_of (k ∷ ks) = more k (checks_of ks)
 
-abbrev pub check_data : Check-F Check → Check
+abbrev pub check_data : Check-F Check Side → Check
 check_data (Check-F.AnyOf ks) = any_of (checks_of ks)
 check_data (Check-F.AllOf ks) = all_of (checks_of ks)
 check_data (Check-F.Not k) = not_so k
 check_data (Check-F.Here i) = here i
 check_data (Check-F.Anywhere i) = anywhere i
-check_data (Check-F.Other c) = other (condition_of c)
+check_data (Check-F.Compare a how b) = compared a (comparison_of how) b
+
+abbrev pub side_data : Side-F Check Side → Side
+side_data s = side (operand_of s.operand) (checks_of s.guards)
 
 abbrev pub check_of : CodeCheck → Check
-check_of = fold-Check Check check_data
+check_of = fold-Check Check Side check_data side_data
+
+abbrev pub side_of : CodeSide → Side
+side_of = fold-Side Check Side check_data side_data
+
+abbrev pub guards_of : CodeSide → Checks
+guards_of s = checks_of (map check_of s.guards)
+
+abbrev pub operand_in : Side → Operand
+operand_in (side o gs) = o
 
 abbrev pub stage_checks : Stage → Checks
 stage_checks x = checks_of (map check_of x.checks)
@@ -56,11 +74,19 @@ abbrev mutual
   size_of_check (any_of ks) = size_of_checks ks + 1
   size_of_check (all_of ks) = size_of_checks ks + 1
   size_of_check (not_so k) = size_of_check k + 1
-  size_of_check k = 1
+  size_of_check (here i) = 1
+  size_of_check (anywhere i) = 1
+  size_of_check (compared a how b) = size_of_side a + size_of_side b + 3
+
+  pub size_of_side : Side → ℕ
+  size_of_side (side o gs) = size_of_checks gs + 2
 
   pub size_of_checks : Checks → ℕ
   size_of_checks no_more = 1
   size_of_checks (more k ks) = size_of_check k + size_of_checks ks + 1
+
+abbrev pub size_of_guards : List CodeCheck → ℕ
+size_of_guards gs = size_of_checks (checks_of (map check_of gs))
 
 -- ---- what holds and what is found, where it is known which positions find something
 
@@ -77,7 +103,7 @@ abbrev mutual
   CheckHolds Here There root e (not_so k) = CheckHolds Here There root e k → ⊥
   CheckHolds Here There root e (here i) = Here i
   CheckHolds Here There root e (anywhere i) = There i
-  CheckHolds Here There root e (other c) = Is c root e
+  CheckHolds Here There root e (compared a how b) = Is (filter.compare (operand_in a) how (operand_in b)) root e
 
   pub EachHolds : (ℕ → Type 0) → (ℕ → Type 0) → Element → Element → Checks → Type 0
   EachHolds Here There root e no_more = Unit {0}
@@ -141,6 +167,15 @@ stage_at (x ∷ earlier) i = if i == length earlier then Some x else stage_at ea
 abbrev pub IsOfDocument : List Stage → ℕ → Type 0
 IsOfDocument plan i = (x : Stage) × (stage_at plan i ≡ Some x) × (x.of_document ≡ true)
 
+-- the check holds at each element where the conditions do
+abbrev pub StandsFor : List Stage → Check → Conditions → Type 0
+StandsFor plan k cs = (root e : Element) → CheckHolds (λ j. At plan root j e) (λ j. At plan root j (document root)) root e k ↔ Each cs root e
+
+-- the steps of an operand that is a path
+abbrev pub way_of : Operand → Steps
+way_of (found (path absolute ss)) = ss
+way_of _ = arrived
+
 -- ---- which plans are well made: a stage refers to earlier ones
 
 abbrev mutual
@@ -150,11 +185,21 @@ abbrev mutual
   CheckRefers earlier (not_so k) = CheckRefers earlier k
   CheckRefers earlier (here i) = i < length earlier
   CheckRefers earlier (anywhere i) = (i < length earlier) × IsOfDocument earlier i
-  CheckRefers earlier (other c) = steps_in_condition c ≤ 512
+  CheckRefers earlier (compared (side a gs) how (side b hs)) = AreGuards earlier (way_of a) gs × AreGuards earlier (way_of b) hs × (steps_in_operand a + steps_in_operand b ≤ 512)
+
+  -- the checks stand for the conditions of the steps
+  pub AreGuards : List Stage → Steps → Checks → Type 0
+  AreGuards earlier arrived no_more = Unit {0}
+  AreGuards earlier (step axis part test cs ss) (more k ks) = CheckRefers earlier k × StandsFor earlier k cs × AreGuards earlier ss ks
+  AreGuards earlier _ _ = ⊥
 
   pub ChecksRefer : List Stage → Checks → Type 0
   ChecksRefer earlier no_more = Unit {0}
   ChecksRefer earlier (more k ks) = CheckRefers earlier k × ChecksRefer earlier ks
+
+-- the checks stand for the conditions of the operand's steps
+abbrev pub Guarded : List Stage → Operand → Checks → Type 0
+Guarded earlier o gs = AreGuards earlier (way_of o) gs
 
 abbrev pub NextRefers : List Stage → Next → Type 0
 NextRefers earlier (next.On i) = i < length earlier
@@ -166,6 +211,11 @@ StageRefers earlier x = ChecksRefer earlier (stage_checks x) × NextRefers earli
 abbrev pub IsMade : List Stage → Type 0
 IsMade [] = Unit {0}
 IsMade (x ∷ earlier) = StageRefers earlier x × IsMade earlier
+
+-- How much is evaluated for a plan: its front weighs less, by more than its next stage's checks.
+abbrev pub weight : List Stage → ℕ
+weight [] = 0
+weight (x ∷ xs) = size_of_checks (stage_checks x) + weight xs + 4
 
 -- ---- what is asked of a visit
 
@@ -181,7 +231,7 @@ abbrev mutual
   CheckAsks Asked (not_so k) = CheckAsks Asked k
   CheckAsks Asked (here i) = Asked i
   CheckAsks Asked (anywhere i) = Unit {0}
-  CheckAsks Asked (other c) = Unit {0}
+  CheckAsks Asked (compared a how b) = Unit {0}
 
   pub ChecksAsk : (ℕ → Type 0) → Checks → Type 0
   ChecksAsk Asked no_more = Unit {0}
@@ -215,7 +265,7 @@ abbrev mutual
   CheckIsSmall (not_so k) = CheckIsSmall k
   CheckIsSmall (here i) = i < 576
   CheckIsSmall (anywhere i) = i < 576
-  CheckIsSmall (other c) = steps_in_condition c ≤ 512
+  CheckIsSmall (compared a how b) = Unit {0}
 
   pub ChecksAreSmall : Checks → Type 0
   ChecksAreSmall no_more = Unit {0}

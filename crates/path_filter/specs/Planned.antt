@@ -1,8 +1,8 @@
 -- Which plans stand for which paths. The stages stand the last one first.
 use Rattle.std.specs.Prelude.{◌≡◌, ◌↔◌, ℕ, suc, ◌+◌, ◌<◌, ◌≤◌, IsTrue, true, List, [], ◌∷◌, ◌++◌, length}
 use Rattle.voe_tree.specs.declared.element.Element.{Element}
-use Rattle.filter_text.specs.Filter.{Text, Path, path, Steps, arrived, Part, element, attribute, Condition, Conditions, Operand, found}
-use Rattle.filter_text.specs.Size.{steps_in_steps}
+use Rattle.filter_text.specs.Filter.{Text, Path, path, Steps, arrived, step, Part, element, attribute, Condition, Conditions, Operand, found}
+use Rattle.filter_text.specs.Size.{steps_in_conditions, steps_in_steps}
 use Rattle.filter_text.specs.Filter as filter
 use Rattle.filter_text.specs.View.{steps_of}
 use Rattle.filter_text.specs.declared.filter.Path.{Path as CodePath, out-Path}
@@ -30,6 +30,20 @@ abbrev pub AllMean : List Stage → Checks → Conditions → Type 0
 AllMean plan no_more filter.no_more = Unit {0}
 AllMean plan (more k ks) (filter.more c cs) = Means plan k c × AllMean plan ks cs
 AllMean plan _ _ = ⊥
+
+-- how many steps stand in the conditions of the steps
+abbrev pub inner_steps : Steps → ℕ
+inner_steps arrived = 0
+inner_steps (step axis part test cs ss) = steps_in_conditions cs + inner_steps ss
+
+abbrev pub inner_steps_in : Operand → ℕ
+inner_steps_in (found (path absolute ss)) = inner_steps ss
+inner_steps_in _ = 0
+
+-- one string by itself
+abbrev pub IsText : Operand → Type 0
+IsText (found way) = ⊥
+IsText _ = Unit {0}
 
 -- a path from the document, with a step
 abbrev pub IsFromDocument : Operand → Type 0

@@ -60,4 +60,4 @@ after (suc n) (step axis part test cs ss) = after n ss
 
 -- A search goes down the filter, and with the same part of the filter down the tree.
 abbrev pub rank : ℕ → ℕ → Element → ℕ
-rank size within root = size * (depth root + 2) + within
+rank size within root = size * (2 * depth root + 4) + within

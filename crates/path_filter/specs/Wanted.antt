@@ -4,11 +4,13 @@ use Rattle.voe_tree.specs.declared.element.Element.{Element}
 use Rattle.filter_text.specs.Filter.{Text}
 use Rattle.voe_tree.specs.Contents.{string_of}
 use Rattle.voe_tree.specs.Shape.{depth}
-use Rattle.filter_text.specs.Size.{size_of_operand, steps_in_operand}
+use Rattle.filter_text.specs.Size.{steps_in_operand}
 use Rattle.path_filter.specs.Meaning.{Related}
+use Rattle.path_filter.specs.Plan.{Guarded, guards_of, newest, size_of_guards}
 use Rattle.path_filter.specs.Search.{Strings}
 use Rattle.filter_text.specs.View.{comparison_of, operand_of}
 use Rattle.filter_text.specs.declared.filter.Comparison.TheVariants as comparisons
+use Rattle.path_filter.specs.declared.context.Context.{Context}
 use Rattle.path_filter.specs.declared.wanted.Found.{Found}
 use Rattle.path_filter.specs.declared.wanted.Found.TheVariants as found
 use Rattle.path_filter.specs.declared.wanted.Wanted.{Wanted}
@@ -34,18 +36,16 @@ exactly f = wanted.Related comparisons.Equal f
 abbrev pub Suits : Wanted → Element → Text → Type 0
 Suits wanted.Anything root s = Unit {0}
 Suits (wanted.Related how other) root s = Related (comparison_of how) s (text_found other)
-Suits (wanted.RelatedToOne how operand e) root s = (t : Text) × Strings (operand_of operand.now) root e.now t × Related (comparison_of how) s t
+Suits (wanted.RelatedToOne how side e) root s = (t : Text) × Strings (operand_of side.now.operand) root e.now t × Related (comparison_of how) s t
 
 abbrev pub size_of_wanted : Wanted → ℕ
-size_of_wanted (wanted.RelatedToOne how operand e) = size_of_operand (operand_of operand.now) + 1
+size_of_wanted (wanted.RelatedToOne how side e) = size_of_guards side.now.guards + 3
 size_of_wanted _ = 0
 
-abbrev pub steps_in_wanted : Wanted → ℕ
-steps_in_wanted (wanted.RelatedToOne how operand e) = steps_in_operand (operand_of operand.now)
-steps_in_wanted _ = 0
-
--- The element of an operand nests no deeper than the root, and one that is compared no deeper than 64.
-abbrev pub Nests : Wanted → Element → Type 0
-Nests (wanted.RelatedToOne how operand e) root = depth e.now ≤ depth root
-Nests (wanted.Related how other) root = IsShallow other
-Nests wanted.Anything root = Unit {0}
+-- The checks of a side stand for the conditions of its path, the side's element nests no deeper than the root, and one
+-- that is compared no deeper than 64.
+abbrev pub IsSound : Wanted → Context → Type 0
+IsSound (wanted.RelatedToOne how side e) c =
+    Guarded (newest c.plan.now) (operand_of side.now.operand) (guards_of side.now) × (steps_in_operand (operand_of side.now.operand) ≤ 512) × (depth e.now ≤ depth c.root.now)
+IsSound (wanted.Related how other) c = IsShallow other
+IsSound wanted.Anything c = Unit {0}

@@ -68,7 +68,7 @@ fn copy_conditions(alloc: Global, conditions: &[Condition]) -> Result<Items<Cond
 }
 
 #[cycle(copy)]
-pub fn copy_condition(alloc: Global, condition: &Condition) -> Result<Condition, NoMemory>
+fn copy_condition(alloc: Global, condition: &Condition) -> Result<Condition, NoMemory>
     ensures { IfOk result (λ c. c ≡ condition.now) }
 {
     match condition {
@@ -98,7 +98,7 @@ pub fn copy_condition(alloc: Global, condition: &Condition) -> Result<Condition,
 }
 
 #[cycle(copy)]
-fn copy_operand(alloc: Global, operand: &Operand) -> Result<Operand, NoMemory>
+pub fn copy_operand(alloc: Global, operand: &Operand) -> Result<Operand, NoMemory>
     ensures { IfOk result (λ o. o ≡ operand.now) }
 {
     match operand {

@@ -2,19 +2,25 @@
 
 ghost use Rattle.std.specs.Prelude.{◌≡◌, ◌↔◌, ◌≤◌, ◌+◌, ℕ, IfNone, IfSome, IsTrue, map};
 ghost use Rattle.voe_tree.specs.Shape.{depth};
-ghost use Rattle.filter_text.specs.Filter.{Steps, arrived, attribute, compare, differs};
-ghost use Rattle.filter_text.specs.Size.{steps_in_condition, steps_in_conditions, steps_in_operand, steps_in_path, steps_in_steps};
-ghost use Rattle.filter_text.specs.View.{comparison_of, condition_of, conditions_of, front_of, operand_of, part_of, path_of, steps_of, test_of};
+ghost use Rattle.filter_text.specs.Filter.{Steps, attribute, compare, differs, found as path_operand};
+ghost use Rattle.filter_text.specs.Size.{steps_in_operand, steps_in_path, steps_in_steps};
+ghost use Rattle.filter_text.specs.View.{comparison_of, conditions_of, condition_of, front_of, operand_of, part_of, path_of, steps_of, test_of};
+ghost use Rattle.path_filter.specs.Contexts.{HoldsAt, IsReady};
 ghost use Rattle.path_filter.specs.Evaluate.{Goes, Next, OwnAttribute, OwnFinds, PathFindsWanted, PathsDiffer, Relates, SearchFinds, Stays};
 ghost use Rattle.path_filter.specs.Meaning.{MeetsName, Related};
+ghost use Rattle.path_filter.specs.Plan.{AreGuards, CheckRefers, Guarded, StandsFor, check_of, checks_of, guards_of, newest};
 ghost use Rattle.path_filter.specs.Positions.{Has};
-ghost use Rattle.path_filter.specs.Search.{Each, Is, IsSo, One};
-ghost use Rattle.path_filter.specs.Wanted.{IsShallow, Nests, Suits, anything, exactly, steps_in_wanted, text_found};
+ghost use Rattle.path_filter.specs.Search.{Is};
+ghost use Rattle.path_filter.specs.Wanted.{IsShallow, IsSound, Suits, anything, exactly, text_found};
 
+use crate::context::Context;
+use crate::found::found_from;
+use crate::plan::{Check, Side};
 use crate::positions::Positions;
 use crate::text::have_same_text;
+use crate::visit::{ask_check, check_holds};
 use crate::wanted::{Found, Wanted};
-use filter_text::{Axis, Comparison, Condition, Operand, Part, Path, Step, Test};
+use filter_text::{Axis, Comparison, Operand, Part, Path, Step, Test};
 use voe_tree::{Element, Node};
 
 /// Whether a name meets the test.
@@ -67,116 +73,76 @@ fn without_tree(found: Found<'_>) -> Found<'_>
     }
 }
 
+/// Whether some string of the one side is so related to some string of the other.
 #[cycle(evaluate)]
-pub fn holds(condition: &Condition, root: &Element, at: &Element) -> bool
-    requires shallow { depth root.now ≤ 64 }
-    requires inside { depth at.now ≤ depth root.now }
-    requires small { steps_in_condition (condition_of condition.now) ≤ 512 }
-    ensures { IsTrue result ↔ Is (condition_of condition.now) root.now at.now }
+pub fn compares(
+    left: &Side,
+    how: &Comparison,
+    right: &Side,
+    context: &Context<'_>,
+    at: &Element,
+) -> bool
+    requires ready { IsReady context.now }
+    requires inside { depth at.now ≤ depth context.now.root.now }
+    requires refers { Guarded (newest context.now.plan.now) (operand_of left.now.operand) (guards_of left.now) × Guarded (newest context.now.plan.now) (operand_of right.now.operand) (guards_of right.now) }
+    requires small { steps_in_operand (operand_of left.now.operand) + steps_in_operand (operand_of right.now.operand) ≤ 512 }
+    ensures { IsTrue result ↔ Is (compare (operand_of left.now.operand) (comparison_of how.now) (operand_of right.now.operand)) context.now.root.now at.now }
 {
-    match condition {
-        Condition::AnyOf(conditions) => one_holds(conditions.as_slice(), root, at),
-        Condition::AllOf(conditions) => each_holds(conditions.as_slice(), root, at),
-        Condition::Not(inner) => !holds(inner.get(), root, at),
-        Condition::Holds(operand) => is_so(operand, root, at),
-        Condition::Compare(left, how, right) => match how {
-            Comparison::Equal => compares(left, how, right, root, at),
-            Comparison::Differs => differs(left, right, root, at),
+    match &left.operand {
+        Operand::Literal(text) => relates(right, *how, Found::Text(text.as_str()), context, at),
+        Operand::LocalName => relates(right, *how, Found::Text(at.local.as_str()), context, at),
+        Operand::Path(path) => {
+            let wanted = Wanted::RelatedToOne(*how, right, at);
+            finds(path, left.guards.as_slice(), context, at, &wanted)
+        }
+    }
+}
+
+/// Whether some string of the one side differs from some string of the other.
+#[cycle(evaluate)]
+pub fn differs(left: &Side, right: &Side, context: &Context<'_>, at: &Element) -> bool
+    requires ready { IsReady context.now }
+    requires inside { depth at.now ≤ depth context.now.root.now }
+    requires refers { Guarded (newest context.now.plan.now) (operand_of left.now.operand) (guards_of left.now) × Guarded (newest context.now.plan.now) (operand_of right.now.operand) (guards_of right.now) }
+    requires small { steps_in_operand (operand_of left.now.operand) + steps_in_operand (operand_of right.now.operand) ≤ 512 }
+    ensures { IsTrue result ↔ Is (compare (operand_of left.now.operand) differs (operand_of right.now.operand)) context.now.root.now at.now }
+{
+    match &left.operand {
+        Operand::Literal(_) => compares(left, &Comparison::Differs, right, context, at),
+        Operand::LocalName => compares(left, &Comparison::Differs, right, context, at),
+        Operand::Path(path) => match &right.operand {
+            Operand::Literal(_) => compares(left, &Comparison::Differs, right, context, at),
+            Operand::LocalName => compares(left, &Comparison::Differs, right, context, at),
+            Operand::Path(other) => {
+                let guards = left.guards.as_slice();
+                let other_guards = right.guards.as_slice();
+                differ(path, guards, other, other_guards, context, at)
+            }
         },
     }
 }
 
-/// Whether some string of the one operand is so related to some string of the other.
-#[cycle(evaluate)]
-fn compares(left: &Operand, how: &Comparison, right: &Operand, root: &Element, at: &Element) -> bool
-    requires shallow { depth root.now ≤ 64 }
-    requires inside { depth at.now ≤ depth root.now }
-    requires small { steps_in_operand (operand_of left.now) + steps_in_operand (operand_of right.now) ≤ 512 }
-    ensures { IsTrue result ↔ Is (compare (operand_of left.now) (comparison_of how.now) (operand_of right.now)) root.now at.now }
-{
-    match left {
-        Operand::Literal(text) => relates(right, *how, Found::Text(text.as_str()), root, at),
-        Operand::LocalName => relates(right, *how, Found::Text(at.local.as_str()), root, at),
-        Operand::Path(path) => finds(path, root, at, &Wanted::RelatedToOne(*how, right, at)),
-    }
-}
-
-/// Whether some string of the one operand differs from some string of the other.
-#[cycle(evaluate)]
-fn differs(left: &Operand, right: &Operand, root: &Element, at: &Element) -> bool
-    requires shallow { depth root.now ≤ 64 }
-    requires inside { depth at.now ≤ depth root.now }
-    requires small { steps_in_operand (operand_of left.now) + steps_in_operand (operand_of right.now) ≤ 512 }
-    ensures { IsTrue result ↔ Is (compare (operand_of left.now) differs (operand_of right.now)) root.now at.now }
-{
-    match left {
-        Operand::Literal(_) => compares(left, &Comparison::Differs, right, root, at),
-        Operand::LocalName => compares(left, &Comparison::Differs, right, root, at),
-        Operand::Path(path) => match right {
-            Operand::Literal(_) => compares(left, &Comparison::Differs, right, root, at),
-            Operand::LocalName => compares(left, &Comparison::Differs, right, root, at),
-            Operand::Path(other) => differ(path, other, root, at),
-        },
-    }
-}
-
-#[cycle(evaluate)]
-fn each_holds(conditions: &[Condition], root: &Element, at: &Element) -> bool
-    requires shallow { depth root.now ≤ 64 }
-    requires inside { depth at.now ≤ depth root.now }
-    requires small { steps_in_conditions (conditions_of (map condition_of conditions.now)) ≤ 512 }
-    ensures { IsTrue result ↔ Each (conditions_of (map condition_of conditions.now)) root.now at.now }
-{
-    match conditions {
-        [] => true,
-        [first, more @ ..] => holds(first, root, at) && each_holds(more, root, at),
-    }
-}
-
-#[cycle(evaluate)]
-fn one_holds(conditions: &[Condition], root: &Element, at: &Element) -> bool
-    requires shallow { depth root.now ≤ 64 }
-    requires inside { depth at.now ≤ depth root.now }
-    requires small { steps_in_conditions (conditions_of (map condition_of conditions.now)) ≤ 512 }
-    ensures { IsTrue result ↔ One (conditions_of (map condition_of conditions.now)) root.now at.now }
-{
-    match conditions {
-        [] => false,
-        [first, more @ ..] => holds(first, root, at) || one_holds(more, root, at),
-    }
-}
-
-#[cycle(evaluate)]
-fn is_so(operand: &Operand, root: &Element, at: &Element) -> bool
-    requires shallow { depth root.now ≤ 64 }
-    requires inside { depth at.now ≤ depth root.now }
-    requires small { steps_in_operand (operand_of operand.now) ≤ 512 }
-    ensures { IsTrue result ↔ IsSo (operand_of operand.now) root.now at.now }
-{
-    match operand {
-        Operand::Path(path) => finds(path, root, at, &Wanted::Anything),
-        Operand::Literal(text) => !text.is_empty(),
-        Operand::LocalName => !at.local.is_empty(),
-    }
-}
-
-/// Whether a string of the operand is so related to what was found.
+/// Whether a string of the side is so related to what was found.
 #[cycle(evaluate)]
 fn relates(
-    operand: &Operand,
+    side: &Side,
     how: Comparison,
     found: Found<'_>,
-    root: &Element,
+    context: &Context<'_>,
     at: &Element,
 ) -> bool
     requires found { IsShallow found }
-    requires shallow { depth root.now ≤ 64 }
-    requires inside { depth at.now ≤ depth root.now }
-    requires small { steps_in_operand (operand_of operand.now) ≤ 512 }
-    ensures { IsTrue result ↔ Relates (operand_of operand.now) (comparison_of how) (text_found found.entry) root.now at.now }
+    requires ready { IsReady context.now }
+    requires inside { depth at.now ≤ depth context.now.root.now }
+    requires refers { Guarded (newest context.now.plan.now) (operand_of side.now.operand) (guards_of side.now) }
+    requires small { steps_in_operand (operand_of side.now.operand) ≤ 512 }
+    ensures { IsTrue result ↔ Relates (operand_of side.now.operand) (comparison_of how) (text_found found.entry) context.now.root.now at.now }
 {
-    match operand {
-        Operand::Path(path) => finds(path, root, at, &Wanted::Related(how, found)),
+    match &side.operand {
+        Operand::Path(path) => {
+            let wanted = Wanted::Related(how, found);
+            finds(path, side.guards.as_slice(), context, at, &wanted)
+        }
         Operand::Literal(text) => are_related(found, how, Found::Text(text.as_str())),
         Operand::LocalName => are_related(found, how, Found::Text(at.local.as_str())),
     }
@@ -185,56 +151,79 @@ fn relates(
 /// Whether some string of the one path differs from some string of the other: both have strings, and those are not
 /// all one.
 #[cycle(evaluate)]
-fn differ(path: &Path, other: &Path, root: &Element, at: &Element) -> bool
-    requires shallow { depth root.now ≤ 64 }
-    requires inside { depth at.now ≤ depth root.now }
+fn differ(
+    path: &Path,
+    guards: &[Check],
+    other: &Path,
+    other_guards: &[Check],
+    context: &Context<'_>,
+    at: &Element,
+) -> bool
+    requires ready { IsReady context.now }
+    requires inside { depth at.now ≤ depth context.now.root.now }
+    requires guarded { Guarded (newest context.now.plan.now) (path_operand (path_of path.now)) (checks_of (map check_of guards.now)) }
+    requires others { Guarded (newest context.now.plan.now) (path_operand (path_of other.now)) (checks_of (map check_of other_guards.now)) }
     requires small { steps_in_path (path_of path.now) + steps_in_path (path_of other.now) ≤ 512 }
-    ensures { IsTrue result ↔ PathsDiffer (path_of path.now) (path_of other.now) root.now at.now }
+    ensures { IsTrue result ↔ PathsDiffer (path_of path.now) (path_of other.now) context.now.root.now at.now }
 {
-    match first(path, root, at) {
+    let near = Context {
+        plan: &*context.plan,
+        known: &*context.known,
+        root: &*context.root,
+    };
+    match first(path, guards, &near, &*at) {
         None => false,
         Some(found) => {
             let unlike = Wanted::Related(Comparison::Differs, without_tree(found));
-            finds(other, root, at, &unlike)
-                || (finds(other, root, at, &Wanted::Anything) && finds(path, root, at, &unlike))
+            finds(other, other_guards, context, at, &unlike)
+                || (finds(other, other_guards, context, at, &Wanted::Anything)
+                    && finds(path, guards, context, at, &unlike))
         }
     }
 }
 
 /// The first place that the path finds.
 #[cycle(evaluate)]
-fn first<'a>(path: &Path, root: &'a Element, at: &'a Element) -> Option<Found<'a>>
-    requires shallow { depth root.now ≤ 64 }
-    requires inside { depth at.now ≤ depth root.now }
+fn first<'a>(
+    path: &Path,
+    guards: &[Check],
+    context: &Context<'a>,
+    at: &'a Element,
+) -> Option<Found<'a>>
+    requires ready { IsReady context.now }
+    requires inside { depth at.now ≤ depth context.now.root.now }
+    requires guarded { Guarded (newest context.now.plan.now) (path_operand (path_of path.now)) (checks_of (map check_of guards.now)) }
     requires small { steps_in_path (path_of path.now) ≤ 512 }
-    ensures some { IfSome result (λ f. IsShallow f × PathFindsWanted (path_of path.now) root.now at.now (exactly f)) }
-    ensures none { IfNone result (PathFindsWanted (path_of path.now) root.now at.now anything → ⊥) }
+    ensures some { IfSome result (λ f. IsShallow f × PathFindsWanted (path_of path.now) context.now.root.now at.now (exactly f)) }
+    ensures none { IfNone result (PathFindsWanted (path_of path.now) context.now.root.now at.now anything → ⊥) }
 {
     let steps = path.steps.as_slice();
     let start = Positions::only(0);
     if !path.is_absolute {
-        return first_from(steps, &start, root, at);
+        return first_from(steps, guards, &start, context, at);
     }
     if steps.is_empty() {
-        return Some(Found::Element(root));
+        return Some(Found::Element(context.root));
     }
-    let reached = advance(steps, &start, root, root);
-    first_from(steps, &reached, root, root)
+    let reached = advance(steps, guards, &start, context, context.root);
+    first_from(steps, guards, &reached, context, context.root)
 }
 
 /// The first place that is found from an element at which these positions are reached.
 #[cycle(evaluate)]
 fn first_from<'a>(
     steps: &[Step],
+    guards: &[Check],
     reached: &Positions,
-    root: &Element,
+    context: &Context<'_>,
     at: &'a Element,
 ) -> Option<Found<'a>>
-    requires shallow { depth root.now ≤ 64 }
-    requires inside { depth at.now ≤ depth root.now }
+    requires ready { IsReady context.now }
+    requires inside { depth at.now ≤ depth context.now.root.now }
+    requires guarded { AreGuards (newest context.now.plan.now) (steps_of steps.now) (checks_of (map check_of guards.now)) }
     requires small { steps_in_steps (steps_of steps.now) ≤ 512 }
-    ensures some { IfSome result (λ f. IsShallow f × SearchFinds steps.now (Has reached.now) root.now at.now (exactly f)) }
-    ensures none { IfNone result (SearchFinds steps.now (Has reached.now) root.now at.now anything → ⊥) }
+    ensures some { IfSome result (λ f. IsShallow f × SearchFinds steps.now (Has reached.now) context.now.root.now at.now (exactly f)) }
+    ensures none { IfNone result (SearchFinds steps.now (Has reached.now) context.now.root.now at.now anything → ⊥) }
 {
     if reached.has(steps.len()) {
         return Some(Found::Element(at));
@@ -245,8 +234,8 @@ fn first_from<'a>(
     for child in at.children.as_slice() {
         match child {
             Node::Element(inner) => {
-                let next = advance(steps, reached, root, inner);
-                if let Some(found) = first_from(steps, &next, root, inner) {
+                let next = advance(steps, guards, reached, context, inner);
+                if let Some(found) = first_from(steps, guards, &next, context, inner) {
                     return Some(found);
                 }
             }
@@ -294,53 +283,60 @@ fn attribute_of<'a>(step: &Step, at: &'a Element) -> Option<Found<'a>>
 
 /// Whether the path finds what is wanted.
 #[cycle(evaluate)]
-pub fn finds(path: &Path, root: &Element, at: &Element, wanted: &Wanted<'_>) -> bool
-    requires shallow { depth root.now ≤ 64 }
-    requires inside { depth at.now ≤ depth root.now }
+fn finds(
+    path: &Path,
+    guards: &[Check],
+    context: &Context<'_>,
+    at: &Element,
+    wanted: &Wanted<'_>,
+) -> bool
+    requires ready { IsReady context.now }
+    requires inside { depth at.now ≤ depth context.now.root.now }
+    requires guarded { Guarded (newest context.now.plan.now) (path_operand (path_of path.now)) (checks_of (map check_of guards.now)) }
     requires small { steps_in_path (path_of path.now) ≤ 512 }
-    requires few { steps_in_wanted wanted.now ≤ 512 }
-    requires nests { Nests wanted.now root.now }
-    ensures { IsTrue result ↔ PathFindsWanted (path_of path.now) root.now at.now wanted.now }
+    requires sound { IsSound wanted.now context.now }
+    ensures { IsTrue result ↔ PathFindsWanted (path_of path.now) context.now.root.now at.now wanted.now }
 {
     let steps = path.steps.as_slice();
     let start = Positions::only(0);
     if !path.is_absolute {
-        return search(steps, &start, root, at, wanted);
+        return search(steps, guards, &start, context, at, wanted);
     }
     if steps.is_empty() {
-        return suits(wanted, root, Found::Element(root));
+        return suits(wanted, context, Found::Element(context.root));
     }
-    let reached = advance(steps, &start, root, root);
-    search(steps, &reached, root, root, wanted)
+    let reached = advance(steps, guards, &start, context, context.root);
+    search(steps, guards, &reached, context, context.root, wanted)
 }
 
 /// Whether what is wanted is found from an element at which these positions are reached.
 #[cycle(evaluate)]
 fn search(
     steps: &[Step],
+    guards: &[Check],
     reached: &Positions,
-    root: &Element,
+    context: &Context<'_>,
     at: &Element,
     wanted: &Wanted<'_>,
 ) -> bool
-    requires shallow { depth root.now ≤ 64 }
-    requires inside { depth at.now ≤ depth root.now }
+    requires ready { IsReady context.now }
+    requires inside { depth at.now ≤ depth context.now.root.now }
+    requires guarded { AreGuards (newest context.now.plan.now) (steps_of steps.now) (checks_of (map check_of guards.now)) }
     requires small { steps_in_steps (steps_of steps.now) ≤ 512 }
-    requires few { steps_in_wanted wanted.now ≤ 512 }
-    requires nests { Nests wanted.now root.now }
-    ensures { IsTrue result ↔ SearchFinds steps.now (Has reached.now) root.now at.now wanted.now }
+    requires sound { IsSound wanted.now context.now }
+    ensures { IsTrue result ↔ SearchFinds steps.now (Has reached.now) context.now.root.now at.now wanted.now }
 {
-    if reached.has(steps.len()) && suits(wanted, root, Found::Element(at)) {
+    if reached.has(steps.len()) && suits(wanted, context, Found::Element(at)) {
         return true;
     }
-    if own_attributes(steps, reached, root, at, wanted) {
+    if own_attributes(steps, reached, context, at, wanted) {
         return true;
     }
     for child in at.children.as_slice() {
         match child {
             Node::Element(inner) => {
-                let next = advance(steps, reached, root, inner);
-                if search(steps, &next, root, inner, wanted) {
+                let next = advance(steps, guards, reached, context, inner);
+                if search(steps, guards, &next, context, inner, wanted) {
                     return true;
                 }
             }
@@ -352,11 +348,18 @@ fn search(
 
 /// The positions that are reached at a child of an element at which these are.
 #[cycle(evaluate)]
-fn advance(steps: &[Step], reached: &Positions, root: &Element, at: &Element) -> Positions
-    requires shallow { depth root.now ≤ 64 }
-    requires inside { depth at.now ≤ depth root.now }
+fn advance(
+    steps: &[Step],
+    guards: &[Check],
+    reached: &Positions,
+    context: &Context<'_>,
+    at: &Element,
+) -> Positions
+    requires ready { IsReady context.now }
+    requires inside { depth at.now ≤ depth context.now.root.now }
+    requires guarded { AreGuards (newest context.now.plan.now) (steps_of steps.now) (checks_of (map check_of guards.now)) }
     requires small { steps_in_steps (steps_of steps.now) ≤ 512 }
-    ensures { (j : ℕ) → Has result j ↔ Next steps.now (Has reached.now) root.now at.now j }
+    ensures { (j : ℕ) → Has result j ↔ Next steps.now (Has reached.now) context.now.root.now at.now j }
 {
     let mut next = Positions::none();
     for (i, step) in steps.iter().enumerate() {
@@ -364,7 +367,7 @@ fn advance(steps: &[Step], reached: &Positions, root: &Element, at: &Element) ->
             if stays(step) {
                 next.add(i);
             }
-            if goes(step, root, at) {
+            if goes(step, &guards[i], context, at) {
                 next.add(i + 1);
             }
         }
@@ -372,34 +375,50 @@ fn advance(steps: &[Step], reached: &Positions, root: &Element, at: &Element) ->
     next
 }
 
+/// Whether the step goes to the element. The guard stands for its conditions.
 #[cycle(evaluate)]
-fn goes(step: &Step, root: &Element, at: &Element) -> bool
-    requires shallow { depth root.now ≤ 64 }
-    requires inside { depth at.now ≤ depth root.now }
-    requires small { steps_in_steps (front_of step.now arrived) ≤ 512 }
-    ensures { (rest : Steps) → IsTrue result ↔ Goes (front_of step.now rest) root.now at.now }
+fn goes(step: &Step, guard: &Check, context: &Context<'_>, at: &Element) -> bool
+    requires ready { IsReady context.now }
+    requires inside { depth at.now ≤ depth context.now.root.now }
+    requires refers { CheckRefers (newest context.now.plan.now) (check_of guard.now) }
+    requires stands { StandsFor (newest context.now.plan.now) (check_of guard.now) (conditions_of (map condition_of step.now.conditions)) }
+    ensures { (rest : Steps) → IsTrue result ↔ Goes (front_of step.now rest) context.now.root.now at.now }
 {
-    !names_attributes(step)
-        && meets(&step.test, at.space.as_str(), at.local.as_str())
-        && each_holds(step.conditions.as_slice(), root, at)
+    if names_attributes(step) || !meets(&step.test, at.space.as_str(), at.local.as_str()) {
+        return false;
+    }
+    step.conditions.as_slice().is_empty() || admits(guard, context, at)
+}
+
+/// Whether the check holds at the element, by one visit of what is below it.
+#[cycle(evaluate)]
+fn admits(guard: &Check, context: &Context<'_>, at: &Element) -> bool
+    requires ready { IsReady context.now }
+    requires inside { depth at.now ≤ depth context.now.root.now }
+    requires refers { CheckRefers (newest context.now.plan.now) (check_of guard.now) }
+    ensures { IsTrue result ↔ HoldsAt context.now at.now (check_of guard.now) }
+{
+    let mut asked = Positions::none();
+    ask_check(guard, &mut asked);
+    let here = found_from(context.plan, context.known, &asked, context.root, at);
+    check_holds(guard, &here, context, at)
 }
 
 #[cycle(evaluate)]
 fn own_attributes(
     steps: &[Step],
     reached: &Positions,
-    root: &Element,
+    context: &Context<'_>,
     at: &Element,
     wanted: &Wanted<'_>,
 ) -> bool
-    requires shallow { depth root.now ≤ 64 }
+    requires ready { IsReady context.now }
     requires small { steps_in_steps (steps_of steps.now) ≤ 512 }
-    requires few { steps_in_wanted wanted.now ≤ 512 }
-    requires nests { Nests wanted.now root.now }
-    ensures { IsTrue result ↔ OwnFinds steps.now (Has reached.now) root.now at.now wanted.now }
+    requires sound { IsSound wanted.now context.now }
+    ensures { IsTrue result ↔ OwnFinds steps.now (Has reached.now) context.now.root.now at.now wanted.now }
 {
     for (i, step) in steps.iter().enumerate() {
-        if reached.has(i) && own_attribute(step, root, at, wanted) {
+        if reached.has(i) && own_attribute(step, context, at, wanted) {
             return true;
         }
     }
@@ -407,11 +426,10 @@ fn own_attributes(
 }
 
 #[cycle(evaluate)]
-fn own_attribute(step: &Step, root: &Element, at: &Element, wanted: &Wanted<'_>) -> bool
-    requires shallow { depth root.now ≤ 64 }
-    requires few { steps_in_wanted wanted.now ≤ 512 }
-    requires nests { Nests wanted.now root.now }
-    ensures { (rest : Steps) → IsTrue result ↔ OwnAttribute (front_of step.now rest) root.now at.now wanted.now }
+fn own_attribute(step: &Step, context: &Context<'_>, at: &Element, wanted: &Wanted<'_>) -> bool
+    requires ready { IsReady context.now }
+    requires sound { IsSound wanted.now context.now }
+    ensures { (rest : Steps) → IsTrue result ↔ OwnAttribute (front_of step.now rest) context.now.root.now at.now wanted.now }
 {
     if !names_attributes(step) {
         return false;
@@ -421,7 +439,7 @@ fn own_attribute(step: &Step, root: &Element, at: &Element, wanted: &Wanted<'_>)
             &step.test,
             attribute.space.as_str(),
             attribute.local.as_str(),
-        ) && suits(wanted, root, Found::Text(attribute.value.as_str()))
+        ) && suits(wanted, context, Found::Text(attribute.value.as_str()))
         {
             return true;
         }
@@ -430,16 +448,15 @@ fn own_attribute(step: &Step, root: &Element, at: &Element, wanted: &Wanted<'_>)
 }
 
 #[cycle(evaluate)]
-fn suits(wanted: &Wanted<'_>, root: &Element, found: Found<'_>) -> bool
-    requires shallow { depth root.now ≤ 64 }
+fn suits(wanted: &Wanted<'_>, context: &Context<'_>, found: Found<'_>) -> bool
+    requires ready { IsReady context.now }
     requires found { IsShallow found }
-    requires few { steps_in_wanted wanted.now ≤ 512 }
-    requires nests { Nests wanted.now root.now }
-    ensures { IsTrue result ↔ Suits wanted.now root.now (text_found found.entry) }
+    requires sound { IsSound wanted.now context.now }
+    ensures { IsTrue result ↔ Suits wanted.now context.now.root.now (text_found found.entry) }
 {
     match wanted {
         Wanted::Anything => true,
         Wanted::Related(how, other) => are_related(found, *how, *other),
-        Wanted::RelatedToOne(how, operand, at) => relates(operand, *how, found, root, at),
+        Wanted::RelatedToOne(how, side, at) => relates(side, *how, found, context, at),
     }
 }

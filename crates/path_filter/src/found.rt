@@ -13,8 +13,8 @@ use crate::positions::Positions;
 use voe_tree::{Element, Node};
 
 /// Which of the asked positions find something from the element.
-#[cycle(found)]
-fn found_from(
+#[cycle(evaluate)]
+pub fn found_from(
     plan: &[Stage],
     known: &Positions,
     asked: &Positions,
@@ -45,7 +45,7 @@ fn found_from(
 }
 
 /// Adds the asked positions that find something from the child.
-#[cycle(found)]
+#[cycle(evaluate)]
 fn visit_child(
     plan: &[Stage],
     known: &Positions,

@@ -1,21 +1,21 @@
 //! Conditions that are the same at each element.
 
-ghost use Rattle.std.specs.Prelude.{◌≡◌, ◌≤◌, ◌<◌, IfOk, List, true};
+ghost use Rattle.std.specs.Prelude.{◌≡◌, IfOk, List, true};
 ghost use Rattle.std.specs.Bool.{OnTrue};
-ghost use Rattle.filter_text.specs.Filter.{arrived, child, element, any, more, no_more, step};
-ghost use Rattle.filter_text.specs.Size.{steps_in_condition};
-ghost use Rattle.filter_text.specs.View.{condition_of, operand_of};
-ghost use Rattle.path_filter.specs.Planned.{IsFromDocument, IsSameEverywhere, Stands};
+ghost use Rattle.filter_text.specs.Filter.{Condition as AnyCondition, arrived, child, element, any, more, no_more, step};
+ghost use Rattle.filter_text.specs.View.{operand_of};
+ghost use Rattle.path_filter.specs.Plan.{CheckRefers, StageRefers, check_of};
+ghost use Rattle.path_filter.specs.Planned.{IsFromDocument, Means, Stands};
 ghost use Rattle.path_filter.specs.declared.plan.Stage.{Stage};
 
 use crate::plan::{Check, Next, Sought, Stage};
-use filter_text::{Axis, Condition, Operand, Part, Test};
+use filter_text::{Axis, Operand, Part, Test};
 use sqlite_items::Items;
 use std::alloc::Global;
 use voe_values::NoMemory;
 
-/// Whether it is a path from the document.
-fn is_from_document(operand: &Operand) -> bool
+/// Whether it is a path from the document, and so finds the same at each element.
+pub fn is_from_document(operand: &Operand) -> bool
     ensures { OnTrue result (IsFromDocument (operand_of operand.now)) }
 {
     match operand {
@@ -25,28 +25,14 @@ fn is_from_document(operand: &Operand) -> bool
     }
 }
 
-/// Whether the condition compares what two paths find from the document, and so holds at each element or at none.
-pub fn is_same_everywhere(condition: &Condition) -> bool
-    ensures same { OnTrue result (IsSameEverywhere (condition_of condition.now)) }
-    ensures some { OnTrue result (0 < steps_in_condition (condition_of condition.now)) }
-{
-    match condition {
-        Condition::AnyOf(_) => false,
-        Condition::AllOf(_) => false,
-        Condition::Not(_) => false,
-        Condition::Holds(_) => false,
-        Condition::Compare(left, _, right) => is_from_document(left) && is_from_document(right),
-    }
-}
-
-/// The step from the document to the root, where the condition holds there.
-pub fn root_where(alloc: Global, condition: Condition) -> Result<Stage, NoMemory>
-    requires { steps_in_condition (condition_of condition) ≤ 512 }
+/// The step from the document to the root, where the check holds there.
+pub fn root_where(alloc: Global, check: Check) -> Result<Stage, NoMemory>
+    ensures refers { IfOk result (λ x. (plan : List Stage) → CheckRefers plan (check_of check) → StageRefers plan x) }
     ensures document { IfOk result (λ x. x.of_document ≡ true) }
-    ensures stands { IfOk result (λ x. (plan : List Stage) → Stands plan x (step child element any (more (condition_of condition) no_more) arrived) Sought.Anything) }
+    ensures stands { IfOk result (λ x. (plan : List Stage) (c : AnyCondition) → Means plan (check_of check) c → Stands plan x (step child element any (more c no_more) arrived) Sought.Anything) }
 {
     let mut checks = Items::new(alloc);
-    checks.push(Check::Other(condition))?;
+    checks.push(check)?;
     Ok(Stage {
         axis: Axis::Child,
         part: Part::Element,

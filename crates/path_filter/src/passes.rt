@@ -2,10 +2,12 @@
 
 ghost use Rattle.std.specs.Prelude.{◌≡◌, ◌↔◌, ◌≤◌, ◌<◌, ◌⊎◌, ℕ, IsTrue, Some, length, slice_get};
 ghost use Rattle.voe_tree.specs.Shape.{depth};
-ghost use Rattle.path_filter.specs.Plan.{Asks, FromChild, Owns, StageIsSmall, StagesAreSmall};
+ghost use Rattle.path_filter.specs.Contexts.{IsReady};
+ghost use Rattle.path_filter.specs.Plan.{Asks, FromChild, IsMade, Knows, Owns, StageIsSmall, StageRefers, StagesAreSmall, newest};
 ghost use Rattle.path_filter.specs.Positions.{Has};
 ghost use Rattle.path_filter.specs.declared.plan.Stage.{Stage};
 
+use crate::context::Context;
 use crate::plan::Stage;
 use crate::positions::Positions;
 use crate::visit::{ask_stage, is_from_child, owns};
@@ -52,32 +54,34 @@ pub fn asked_of_child(
 }
 
 /// Adds the position where it is asked and finds something from the child.
+#[cycle(evaluate)]
 fn add_one(
     stage: &Stage,
     position: usize,
     asked: &Positions,
     below: &Positions,
-    known: &Positions,
-    root: &Element,
+    context: &Context<'_>,
     child: &Element,
     found: &mut Positions,
 )
-    requires shallow { depth root.now ≤ 64 }
-    requires inside { depth child.now ≤ depth root.now }
+    requires ready { IsReady context.now }
+    requires inside { depth child.now ≤ depth context.now.root.now }
     requires small { StageIsSmall stage.now }
+    requires refers { StageRefers (newest context.now.plan.now) stage.now }
     requires few { position < 576 }
     ensures { (k : ℕ) → Has found.new k
-        ↔ (Has found.old k ⊎ ((k ≡ position) × Has asked.now position × FromChild (Has below.now) (Has known.now) root.now child.now position stage.now)) }
+        ↔ (Has found.old k ⊎ ((k ≡ position) × Has asked.now position × FromChild (Has below.now) (Has context.now.known.now) context.now.root.now child.now position stage.now)) }
 {
     if !asked.has(position) || found.has(position) {
         return;
     }
-    if is_from_child(stage, position, below, known, root, child) {
+    if is_from_child(stage, position, below, context, child) {
         found.add(position);
     }
 }
 
 /// Adds the positions that are asked and find something from the child.
+#[cycle(evaluate)]
 pub fn add_from_child(
     plan: &[Stage],
     asked: &Positions,
@@ -89,14 +93,21 @@ pub fn add_from_child(
 )
     requires shallow { depth root.now ≤ 64 }
     requires inside { depth child.now ≤ depth root.now }
+    requires made { IsMade (newest plan.now) }
     requires small { StagesAreSmall plan.now }
     requires few { length plan.now ≤ 512 }
+    requires knows { Knows (Has known.now) (newest plan.now) root.now }
     ensures { (i : ℕ) (x : Stage) → slice_get plan.now i ≡ Some x → Has asked.now i
         → Has found.new i ↔ (Has found.old i ⊎ FromChild (Has below.now) (Has known.now) root.now child.now i x) }
 {
     let mut i = asked.next(0, plan.len());
     while i < plan.len() {
-        add_one(&plan[i], i, asked, below, known, root, child, found);
+        let context = Context {
+            plan: &plan[..i],
+            known,
+            root,
+        };
+        add_one(&plan[i], i, asked, below, &context, child, found);
         i = asked.next(i + 1, plan.len());
     }
 }

@@ -1,6 +1,6 @@
 //! A filter laid out so that one visit of each element serves all its paths.
 
-use filter_text::{Axis, Comparison, Condition, Part, Test};
+use filter_text::{Axis, Comparison, Operand, Part, Test};
 use sqlite_items::{Boxed, Items};
 use voe_values::Text;
 
@@ -20,6 +20,7 @@ pub enum Next {
 }
 
 /// A condition in which paths stand as their positions.
+#[cycle(plan)]
 #[derive(Drop)]
 pub enum Check {
     AnyOf(Items<Check>),
@@ -29,8 +30,16 @@ pub enum Check {
     Here(usize),
     /// What the path looks for is found from the document.
     Anywhere(usize),
-    /// A condition that is evaluated by itself.
-    Other(Condition),
+    /// Some string of the one side is so related to some string of the other.
+    Compare(Side, Comparison, Side),
+}
+
+/// One side of a comparison, with a check in place of the conditions of each step of its path, in their order.
+#[cycle(plan)]
+#[derive(Drop)]
+pub struct Side {
+    pub operand: Operand,
+    pub guards: Items<Check>,
 }
 
 /// A step of a path. Its number in the plan is its position, and it refers to lower ones alone.

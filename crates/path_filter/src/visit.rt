@@ -4,15 +4,17 @@ ghost use Rattle.std.specs.Prelude.{◌≡◌, ◌↔◌, ◌≤◌, ◌<◌, �
 ghost use Rattle.voe_tree.specs.Shape.{depth};
 ghost use Rattle.filter_text.specs.Filter.{descendant, element};
 ghost use Rattle.filter_text.specs.View.{axis_of, part_of};
-ghost use Rattle.path_filter.specs.Plan.{Arrives, Asks, CheckAsks, CheckHolds, CheckIsSmall, ChecksAreSmall, ChecksAsk, EachHolds, EndsAt, FromChild, GoesOn, NextAsks, NextIsSmall, OneHolds, Owns, StageIsSmall, Suited, check_of, checks_of};
+ghost use Rattle.path_filter.specs.Contexts.{IsReady};
+ghost use Rattle.path_filter.specs.Plan.{Arrives, Asks, CheckAsks, CheckHolds, CheckIsSmall, CheckRefers, ChecksAreSmall, ChecksAsk, ChecksRefer, EachHolds, EndsAt, FromChild, GoesOn, NextAsks, NextIsSmall, OneHolds, Owns, StageIsSmall, StageRefers, Suited, check_of, checks_of, newest};
 ghost use Rattle.path_filter.specs.Positions.{Has};
 ghost use Rattle.path_filter.specs.Wanted.{text_found};
 
-use crate::evaluate::{are_related, holds, meets};
+use crate::context::Context;
+use crate::evaluate::{are_related, compares, differs, meets};
 use crate::plan::{Check, Next, Sought, Stage};
 use crate::positions::Positions;
 use crate::wanted::Found;
-use filter_text::{Axis, Part};
+use filter_text::{Axis, Comparison, Part};
 use voe_tree::{Element, Node};
 
 /// Whether the string is what the end of a path looks for.
@@ -36,67 +38,71 @@ fn goes_on(next: &Next, here: &Positions, at: &Element) -> bool
     }
 }
 
-#[cycle(checks)]
-fn check_holds(
+/// Whether the check holds at the element, from which these positions find something.
+#[cycle(evaluate)]
+pub fn check_holds(
     check: &Check,
     here: &Positions,
-    there: &Positions,
-    root: &Element,
+    context: &Context<'_>,
     at: &Element,
 ) -> bool
-    requires shallow { depth root.now ≤ 64 }
-    requires inside { depth at.now ≤ depth root.now }
+    requires ready { IsReady context.now }
+    requires inside { depth at.now ≤ depth context.now.root.now }
     requires small { CheckIsSmall (check_of check.now) }
-    ensures { IsTrue result ↔ CheckHolds (Has here.now) (Has there.now) root.now at.now (check_of check.now) }
+    requires refers { CheckRefers (newest context.now.plan.now) (check_of check.now) }
+    ensures { IsTrue result ↔ CheckHolds (Has here.now) (Has context.now.known.now) context.now.root.now at.now (check_of check.now) }
 {
     match check {
-        Check::AnyOf(checks) => one_holds(checks.as_slice(), here, there, root, at),
-        Check::AllOf(checks) => each_holds(checks.as_slice(), here, there, root, at),
-        Check::Not(inner) => !check_holds(inner.get(), here, there, root, at),
+        Check::AnyOf(checks) => one_holds(checks.as_slice(), here, context, at),
+        Check::AllOf(checks) => each_holds(checks.as_slice(), here, context, at),
+        Check::Not(inner) => !check_holds(inner.get(), here, context, at),
         Check::Here(position) => here.has(*position),
-        Check::Anywhere(position) => there.has(*position),
-        Check::Other(condition) => holds(condition, root, at),
+        Check::Anywhere(position) => context.known.has(*position),
+        Check::Compare(left, how, right) => match how {
+            Comparison::Equal => compares(left, how, right, context, at),
+            Comparison::Differs => differs(left, right, context, at),
+        },
     }
 }
 
-#[cycle(checks)]
+#[cycle(evaluate)]
 fn each_holds(
     checks: &[Check],
     here: &Positions,
-    there: &Positions,
-    root: &Element,
+    context: &Context<'_>,
     at: &Element,
 ) -> bool
-    requires shallow { depth root.now ≤ 64 }
-    requires inside { depth at.now ≤ depth root.now }
+    requires ready { IsReady context.now }
+    requires inside { depth at.now ≤ depth context.now.root.now }
     requires small { ChecksAreSmall (checks_of (map check_of checks.now)) }
-    ensures { IsTrue result ↔ EachHolds (Has here.now) (Has there.now) root.now at.now (checks_of (map check_of checks.now)) }
+    requires refers { ChecksRefer (newest context.now.plan.now) (checks_of (map check_of checks.now)) }
+    ensures { IsTrue result ↔ EachHolds (Has here.now) (Has context.now.known.now) context.now.root.now at.now (checks_of (map check_of checks.now)) }
 {
     match checks {
         [] => true,
         [first, more @ ..] => {
-            check_holds(first, here, there, root, at) && each_holds(more, here, there, root, at)
+            check_holds(first, here, context, at) && each_holds(more, here, context, at)
         }
     }
 }
 
-#[cycle(checks)]
+#[cycle(evaluate)]
 fn one_holds(
     checks: &[Check],
     here: &Positions,
-    there: &Positions,
-    root: &Element,
+    context: &Context<'_>,
     at: &Element,
 ) -> bool
-    requires shallow { depth root.now ≤ 64 }
-    requires inside { depth at.now ≤ depth root.now }
+    requires ready { IsReady context.now }
+    requires inside { depth at.now ≤ depth context.now.root.now }
     requires small { ChecksAreSmall (checks_of (map check_of checks.now)) }
-    ensures { IsTrue result ↔ OneHolds (Has here.now) (Has there.now) root.now at.now (checks_of (map check_of checks.now)) }
+    requires refers { ChecksRefer (newest context.now.plan.now) (checks_of (map check_of checks.now)) }
+    ensures { IsTrue result ↔ OneHolds (Has here.now) (Has context.now.known.now) context.now.root.now at.now (checks_of (map check_of checks.now)) }
 {
     match checks {
         [] => false,
         [first, more @ ..] => {
-            check_holds(first, here, there, root, at) || one_holds(more, here, there, root, at)
+            check_holds(first, here, context, at) || one_holds(more, here, context, at)
         }
     }
 }
@@ -121,34 +127,37 @@ fn goes_deeper(stage: &Stage) -> bool
 }
 
 /// Whether the step goes to the element, and what comes behind it is found from there.
-fn arrives(stage: &Stage, here: &Positions, there: &Positions, root: &Element, at: &Element) -> bool
-    requires shallow { depth root.now ≤ 64 }
-    requires inside { depth at.now ≤ depth root.now }
+#[cycle(evaluate)]
+fn arrives(stage: &Stage, here: &Positions, context: &Context<'_>, at: &Element) -> bool
+    requires ready { IsReady context.now }
+    requires inside { depth at.now ≤ depth context.now.root.now }
     requires small { StageIsSmall stage.now }
-    ensures { IsTrue result ↔ Arrives (Has here.now) (Has there.now) root.now at.now stage.now }
+    requires refers { StageRefers (newest context.now.plan.now) stage.now }
+    ensures { IsTrue result ↔ Arrives (Has here.now) (Has context.now.known.now) context.now.root.now at.now stage.now }
 {
     names_elements(stage)
         && meets(&stage.test, at.space.as_str(), at.local.as_str())
-        && each_holds(stage.checks.as_slice(), here, there, root, at)
+        && each_holds(stage.checks.as_slice(), here, context, at)
         && goes_on(&stage.next, here, at)
 }
 
 /// Whether the position finds something from this child.
+#[cycle(evaluate)]
 pub fn is_from_child(
     stage: &Stage,
     position: usize,
     here: &Positions,
-    there: &Positions,
-    root: &Element,
+    context: &Context<'_>,
     child: &Element,
 ) -> bool
-    requires shallow { depth root.now ≤ 64 }
-    requires inside { depth child.now ≤ depth root.now }
+    requires ready { IsReady context.now }
+    requires inside { depth child.now ≤ depth context.now.root.now }
     requires small { StageIsSmall stage.now }
+    requires refers { StageRefers (newest context.now.plan.now) stage.now }
     requires few { position < 576 }
-    ensures { IsTrue result ↔ FromChild (Has here.now) (Has there.now) root.now child.now position stage.now }
+    ensures { IsTrue result ↔ FromChild (Has here.now) (Has context.now.known.now) context.now.root.now child.now position stage.now }
 {
-    arrives(stage, here, there, root, child) || (goes_deeper(stage) && here.has(position))
+    arrives(stage, here, context, child) || (goes_deeper(stage) && here.has(position))
 }
 
 /// Whether the path ends at an attribute with this value.
@@ -181,8 +190,9 @@ pub fn owns(stage: &Stage, at: &Element) -> bool
     false
 }
 
+/// Asks what decides whether the check holds.
 #[cycle(asks)]
-fn ask_check(check: &Check, asked: &mut Positions)
+pub fn ask_check(check: &Check, asked: &mut Positions)
     requires small { CheckIsSmall (check_of check.now) }
     ensures asks { CheckAsks (Has asked.new) (check_of check.now) }
     ensures keeps { (i : ℕ) → Has asked.old i → Has asked.new i }
@@ -193,7 +203,7 @@ fn ask_check(check: &Check, asked: &mut Positions)
         Check::Not(inner) => ask_check(inner.get(), asked),
         Check::Here(position) => asked.add(*position),
         Check::Anywhere(_) => {}
-        Check::Other(_) => {}
+        Check::Compare(_, _, _) => {}
     }
 }
 

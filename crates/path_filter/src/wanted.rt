@@ -1,6 +1,7 @@
 //! What a search compares, and what it looks for.
 
-use filter_text::{Comparison, Operand};
+use crate::plan::Side;
+use filter_text::Comparison;
 use voe_tree::Element;
 
 /// What stands at a place that a path names.
@@ -16,6 +17,6 @@ pub enum Wanted<'a> {
     Anything,
     /// A string that is so related to this one.
     Related(Comparison, Found<'a>),
-    /// A string that is so related to one of the operand's, at this element.
-    RelatedToOne(Comparison, &'a Operand, &'a Element),
+    /// A string that is so related to one of the side's, at this element.
+    RelatedToOne(Comparison, &'a Side, &'a Element),
 }

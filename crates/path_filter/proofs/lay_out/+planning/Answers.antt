@@ -1,17 +1,22 @@
 use Rattle.std.proofs.Common.{◌≡◌, ◌∙◌, ◌+◌, ◌-◌, ◌∷◌, ◌++◌, [], false, length, map, take, drop, sym, subst, ap, arith}
 use Rattle.std.specs.Option.{MatchOption}
-use Rattle.filter_text.specs.Filter.{arrived, step, element, attribute}
-use Rattle.filter_text.specs.Size.{steps_in_condition, steps_in_conditions, steps_in_path, steps_in_steps}
-use Rattle.filter_text.specs.View.{axis_of, condition_of, conditions_of, part_of, steps_of, test_of}
+use Rattle.filter_text.specs.Filter.{alone, arrived, compare, found, step, element, attribute}
+use Rattle.filter_text.specs.Filter as filter
+use Rattle.filter_text.specs.Size.{size_of_conditions, steps_in_condition, steps_in_conditions, steps_in_path, steps_in_steps}
+use Rattle.filter_text.specs.View.{axis_of, comparison_of, condition_of, conditions_of, operand_of, part_of, path_of, steps_of, test_of}
 use Rattle.filter_text.specs.declared.filter.Path.{out-Path}
-use Rattle.path_filter.specs.Plan.{check_of, checks_of, newest}
-use Rattle.path_filter.specs.Planned.{AllMean, Grows, IsLast, Means, Stands, Starts}
+use Rattle.path_filter.specs.Plan.{AreGuards, all_of, check_of, checks_of, newest, no_more}
+use Rattle.path_filter.specs.Planned.{AllMean, Grows, IsLast, Looks, Means, Stands, Starts, inner_steps}
 use Rattle.path_filter.specs.declared.plan.Check.TheVariants as checks
+use Rattle.path_filter.specs.declared.plan.Sought.TheVariants as sought
 use Rattle.path_filter.specs.declared.plan.Stage.{Stage}
-use Rattle.path_filter.proofs.EvaluateSteps.{read, to-place}
-use Rattle.path_filter.proofs.GrowLaws.{all_mean_grown, all_mean_snoc, any_out_means, all_out_means, condition_sizes, follows_grown, follows_on, grows_le, grows_then, map_snoc, non_empty, pushed, pushed_document, pushed_grows, pushed_last, stands, steps_open, steps_snoc}
+use Rattle.path_filter.proofs.EvaluateSteps.{read, step-sizes, to-place}
+use Rattle.path_filter.proofs.GrowLaws.{all_means, all_mean_grown, all_mean_snoc, any_out_means, all_out_means, comparison_means, condition_sizes, follows_grown, follows_on, grows_le, grows_then, guards_grown, inner_operand_le, inner_operand_less, inner_snoc, map_snoc, non_empty, pushed, pushed_document, pushed_grows, pushed_last, stands, start_means, steps_open, steps_snoc}
+use Rattle.path_filter.proofs.CheckViews.{all-out}
+use Rattle.path_filter.proofs.GuardLaws.{guards_snoc}
+use Rattle.path_filter.proofs.OnceLaws.{if_ok, same_everywhere}
 use Rattle.path_filter.proofs.PositionLaws.{fewer}
-use Rattle.path_filter.proofs.Views.{path-out}
+use Rattle.path_filter.proofs.Views.{found-out, front-out, path-out}
 use Rattle.path_filter.proofs.lay_out.+planning.Goals as goal
 
 pub plan_condition-returns-in_ok-checks-in-AnyOf-clause-means : goal.plan_condition-returns-in_ok-checks-in-AnyOf-clause-means
@@ -27,6 +32,84 @@ plan_condition-returns-in_ok-checks-in-AllOf-clause-means t c =
     let ks = c.in_ok-checks-in-AllOf.checks in
     let means = subst (λ cs. AllMean new (checks_of (map check_of ks)) (conditions_of (map condition_of cs))) c.as_slice-in-AllOf.ensures c.in_ok-checks-in-AllOf.ensures.means in
     subst (λ d. Means new (check_of (checks.AllOf ks)) (condition_of d)) (sym c.in-AllOf.is) (all_out_means new ks c.in-AllOf.conditions means)
+
+pub plan_alone-returns-in-None-clause-means : goal.plan_alone-returns-in-None-clause-means
+plan_alone-returns-in-None-clause-means t c =
+    let new = newest c.plan_found.new.plan in
+    let p = c.in-Path.path in
+    let none = subst (λ o. MatchOption o ((new ≡ newest c.args.plan.now) × (steps_of (out-Path p).steps ≡ arrived)) (λ k. Looks new (check_of k) (path_of p) sought.Anything)) c.in-None.is c.in_ok-check-in-Path.ensures.means in
+    let made : check_of (checks.AllOf c.new.result) ≡ all_of no_more = all-out c.new.result ∙ ap (λ ks. all_of (checks_of (map check_of ks))) c.new.ensures in
+    let operand : operand_of c.args.operand.now ≡ found (path_of p) = ap operand_of c.in-Path.is ∙ found-out p in
+    subst (λ k. Means new k (alone (operand_of c.args.operand.now))) (sym made) (subst (λ o. Means new (all_of no_more) (alone o)) (sym operand) (start_means new p none.1))
+
+pub plan_comparison-plan_once-requires-clause-refers : goal.plan_comparison-plan_once-requires-clause-refers
+plan_comparison-plan_once-requires-clause-refers t c =
+    (comparison_means (newest c.plan_side.new.plan) (newest c.plan_side-2.new.plan) _ c.in_ok-one.one c.in_ok-other.other c.args.left.now c.args.right.now c.args.how c.in_ok-one.ensures.same c.in_ok-other.ensures.same
+    c.in_ok-one.ensures.guarded c.in_ok-other.ensures.grows c.in_ok-other.ensures.guarded c.requires.small).refers
+
+pub plan_comparison-returns-then-is_from_document-2-clause-grows : goal.plan_comparison-returns-then-is_from_document-2-clause-grows
+plan_comparison-returns-then-is_from_document-2-clause-grows t c =
+    let old = newest c.args.plan.now in
+    let middle = newest c.plan_side.new.plan in
+    let sides = newest c.plan_side-2.new.plan in
+    if_ok (λ _. Grows sides (newest c.plan_once.new.plan) 1) (λ _. Grows old (newest c.plan_once.new.plan) _) c.plan_once.result
+    (λ _ grown. grows_le old (newest c.plan_once.new.plan) _ _ (omega (arith, inner_operand_less (operand_of c.args.left.now) c.if-is_from_document.ensures, inner_operand_less (operand_of c.args.right.now) c.if-is_from_document-2.ensures))
+    (grows_then old sides (newest c.plan_once.new.plan) _ 1 (grows_then old middle sides _ _ c.in_ok-one.ensures.grows c.in_ok-other.ensures.grows) grown)) c.plan_once.ensures.grows
+
+pub plan_comparison-returns-then-is_from_document-2-clause-means : goal.plan_comparison-returns-then-is_from_document-2-clause-means
+plan_comparison-returns-then-is_from_document-2-clause-means t c =
+    let a = operand_of c.args.left.now in
+    let b = operand_of c.args.right.now in
+    if_ok _ (λ k. Means (newest c.plan_once.new.plan) (check_of k) (compare a (comparison_of c.args.how) b)) c.plan_once.result
+    (λ k means. means (compare a (comparison_of c.args.how) b) (same_everywhere a b (comparison_of c.args.how) c.if-is_from_document.ensures c.if-is_from_document-2.ensures)
+    (comparison_means (newest c.plan_side.new.plan) (newest c.plan_side-2.new.plan) _ c.in_ok-one.one c.in_ok-other.other c.args.left.now c.args.right.now c.args.how c.in_ok-one.ensures.same c.in_ok-other.ensures.same
+    c.in_ok-one.ensures.guarded c.in_ok-other.ensures.grows c.in_ok-other.ensures.guarded c.requires.small)) c.plan_once.ensures.means
+
+pub plan_comparison-returns-clause-grows : goal.plan_comparison-returns-clause-grows
+plan_comparison-returns-clause-grows t c =
+    let old = newest c.args.plan.now in
+    let new = newest c.plan_side-2.new.plan in
+    grows_le old new _ _ (omega (arith, inner_operand_le (operand_of c.args.left.now), inner_operand_le (operand_of c.args.right.now)))
+    (grows_then old (newest c.plan_side.new.plan) new _ _ c.in_ok-one.ensures.grows c.in_ok-other.ensures.grows)
+
+pub plan_comparison-returns-clause-means : goal.plan_comparison-returns-clause-means
+plan_comparison-returns-clause-means t c =
+    comparison_means (newest c.plan_side.new.plan) (newest c.plan_side-2.new.plan) _ c.in_ok-one.one c.in_ok-other.other c.args.left.now c.args.right.now c.args.how c.in_ok-one.ensures.same c.in_ok-other.ensures.same
+    c.in_ok-one.ensures.guarded c.in_ok-other.ensures.grows c.in_ok-other.ensures.guarded c.requires.small
+
+pub plan_guards-plan_conditions-requires : goal.plan_guards-plan_conditions-requires
+plan_guards-plan_conditions-requires t c =
+    let x = c.step-item.result in
+    let at = read c.args.steps.now c.loop-step.step-index x c.loop-step-test.true c.step-item.is in
+    let sizes = step-sizes c.args.steps.now c.loop-step.step-index x at in
+    let count = ap (λ f. steps_in_steps (f arrived)) (front-out x) in
+    let same_size = ap (λ xs. size_of_conditions (conditions_of (map condition_of xs))) c.as_slice.ensures in
+    let same_count = ap (λ xs. steps_in_conditions (conditions_of (map condition_of xs))) c.as_slice.ensures in
+    (omega (arith, c.decreases, sizes.0, same_size), (c.loop-step.invariant.grows.made, omega (arith, sizes.1, count, same_count, c.requires.small)))
+
+pub plan_guards-loop-step-preserved : goal.plan_guards-loop-step-preserved
+plan_guards-loop-step-preserved t c =
+    let i = c.loop-step.step-index in
+    let x = c.step-item.result in
+    let at = read c.args.steps.now i x c.loop-step-test.true c.step-item.is in
+    let seen = take i c.args.steps.now in
+    let now = to-place c.args.steps.now i x at in
+    let cs = conditions_of (map condition_of x.conditions) in
+    let k = checks.AllOf c.in_ok-checks.checks in
+    let made : map check_of c.push.new.self ≡ map check_of c.loop-step.guards ++ check_of k ∷ [] = ap (λ ks. map check_of ks) c.in_ok-push.ensures.ok ∙ map_snoc check_of c.loop-step.guards k in
+    let a = newest c.args.plan.now in
+    let b = newest c.loop-step.plan in
+    let d = newest c.plan_conditions.new.plan in
+    let grown = subst (λ xs. Grows b d (steps_in_conditions (conditions_of (map condition_of xs)))) c.as_slice.ensures c.in_ok-checks.ensures.grows in
+    let all = all_means d (checks_of (map check_of c.in_ok-checks.checks)) cs (subst (λ xs. AllMean d (checks_of (map check_of c.in_ok-checks.checks)) (conditions_of (map condition_of xs))) c.as_slice.ensures c.in_ok-checks.ensures.means) in
+    let means = subst (λ j. Means d j (filter.all_of cs)) (sym (all-out c.in_ok-checks.checks)) all in
+    record {
+      grows = subst (λ xs. Grows a d (inner_steps (steps_of xs))) (sym now)
+          (grows_le a d _ _ (omega (arith, inner_snoc seen x)) (grows_then a b d (inner_steps (steps_of seen)) (steps_in_conditions cs) c.loop-step.invariant.grows grown));
+      guards = subst (λ ks. AreGuards d (steps_of (take (i + 1) c.args.steps.now)) (checks_of ks)) (sym made)
+          (subst (λ xs. AreGuards d (steps_of xs) (checks_of (map check_of c.loop-step.guards ++ check_of k ∷ []))) (sym now)
+          (guards_snoc d seen (map check_of c.loop-step.guards) x (check_of k) (guards_grown b d (steps_in_conditions cs) (steps_of seen) (checks_of (map check_of c.loop-step.guards)) grown c.loop-step.invariant.guards) means.refers means.holds));
+    }
 
 pub plan_conditions-plan_condition-requires : goal.plan_conditions-plan_condition-requires
 plan_conditions-plan_condition-requires t c =

@@ -1,27 +1,23 @@
 use Rattle.std.proofs.Common.{◌+◌, arith, subst, sym}
 use Rattle.filter_text.specs.Filter.{arrived, step, child, element, any, more, no_more}
-use Rattle.filter_text.specs.View.{condition_of}
 use Rattle.path_filter.specs.Plan.{anywhere, newest}
-use Rattle.path_filter.specs.Planned.{IsSameEverywhere, Means}
+use Rattle.path_filter.specs.Planned.{Means}
 use Rattle.path_filter.specs.declared.plan.Sought.TheVariants as sought
 use Rattle.path_filter.proofs.CheckViews.{anywhere-out}
-use Rattle.path_filter.proofs.GrowLaws.{grows_le, pushed, pushed_document, pushed_grows}
+use Rattle.path_filter.proofs.GrowLaws.{pushed, pushed_document, pushed_grows}
 use Rattle.path_filter.proofs.OnceLaws.{grows_none, once_means}
 use Rattle.path_filter.proofs.lay_out.plan_once.Goals as goal
 
 pub returns-clause-grows : goal.returns-clause-grows
 returns-clause-grows c =
     let old = newest c.args.plan.now in
-    grows_le old (newest c.push.new.plan) (0 + 1) _ (omega (arith, c.requires.some))
-    (pushed_grows old c.args.plan.now c.push.new.plan c.in_ok-position.position c.in_ok-stage.stage 0 c.in_ok-position.ensures (c.in_ok-stage.ensures.stands old).refers (grows_none old c.requires.made))
+    pushed_grows old c.args.plan.now c.push.new.plan c.in_ok-position.position c.in_ok-stage.stage 0 c.in_ok-position.ensures (c.in_ok-stage.ensures.refers old c.requires.refers) (grows_none old c.requires.made)
 
 pub returns-clause-means : goal.returns-clause-means
-returns-clause-means c =
+returns-clause-means c = λ condition same means.
     let new = newest c.push.new.plan in
     let i = c.in_ok-position.position in
-    let copied = c.in_ok-condition.condition in
-    subst (λ k. Means new k (condition_of c.args.condition.now)) (sym (anywhere-out i))
-    (subst (λ d. Means new (anywhere i) (condition_of d)) c.in_ok-condition.ensures
-    (once_means new i (condition_of copied) (subst (λ d. IsSameEverywhere (condition_of d)) (sym c.in_ok-condition.ensures) c.requires.same)
-    (pushed c.args.plan.now c.push.new.plan i c.in_ok-stage.stage (step child element any (more (condition_of copied) no_more) arrived) sought.Anything c.in_ok-position.ensures (c.in_ok-stage.ensures.stands (newest c.args.plan.now)))
-    (pushed_document c.args.plan.now c.push.new.plan i c.in_ok-stage.stage c.in_ok-position.ensures c.in_ok-stage.ensures.document)))
+    subst (λ k. Means new k condition) (sym (anywhere-out i))
+    (once_means new i condition same
+    (pushed c.args.plan.now c.push.new.plan i c.in_ok-stage.stage (step child element any (more condition no_more) arrived) sought.Anything c.in_ok-position.ensures (c.in_ok-stage.ensures.stands (newest c.args.plan.now) condition means))
+    (pushed_document c.args.plan.now c.push.new.plan i c.in_ok-stage.stage c.in_ok-position.ensures c.in_ok-stage.ensures.document))

@@ -1,0 +1,470 @@
+use Rattle.std.proofs.Common.{◌≡◌, ◌↔◌, ◌⊎◌, inl, inr, Some, true, ◌<◌, ◌+◌, ◌*◌, ℕ, suc, length, map, take, [], IsTrue, ◌≤◌, arith, refl, sym, ◌∙◌, ap, subst}
+use Rattle.std.specs.Bool.{◌==◌}
+use Rattle.std.specs.List.{slice_get}
+use Rattle.filter_text.specs.Filter.{path, differs}
+use Rattle.filter_text.specs.Size.{steps_in_path, steps_in_steps}
+use Rattle.filter_text.specs.View.{comparison_of, operand_of, path_of, steps_of, test_of}
+use Rattle.filter_text.specs.declared.filter.Path.{out-Path}
+use Rattle.voe_tree.specs.Contents.{elements_in}
+use Rattle.voe_tree.specs.Shape.{depth}
+use Rattle.voe_tree.specs.declared.element.Node.TheVariants as tree
+use Rattle.path_filter.specs.Contexts.{work}
+use Rattle.path_filter.specs.Evaluate.{Goes, Stays, SearchFinds, OwnAttribute, PathFindsWanted, Next, NextBelow}
+use Rattle.path_filter.specs.Plan.{CheckHolds, FromChild, check_of, compared, guards_of, newest, side, size_of_check, size_of_checks, size_of_guards, stage_checks, weight}
+use Rattle.path_filter.specs.Positions.{Has}
+use Rattle.path_filter.specs.Search.{OneOf, after, rank}
+use Rattle.path_filter.specs.Wanted.{IsShallow, Suits, anything, exactly, size_of_wanted}
+use Rattle.path_filter.specs.declared.wanted.Found.TheVariants as places
+use Rattle.path_filter.proofs.CheckViews.{compared-out}
+use Rattle.path_filter.proofs.DifferLaws.{all_one, if_none, if_some, not_false, one_differs}
+use Rattle.path_filter.proofs.EvaluateSteps.{read, one-next, one-past, element-next, element-split, text-next, element-one, search-same, Attributes, own-in, own-out, added, not_added, advanced, skipped, contra, meets-as, below-more, document-in, document-out, past-end}
+use Rattle.path_filter.proofs.GuardLaws.{guard_at, guard_holds, guards_length, goes_in, goes_out, some_checks}
+use Rattle.path_filter.proofs.HasLaws.{has_or_not}
+use Rattle.path_filter.proofs.MarkLaws.{small_at, skip_marked, one_marked, all_marked, within}
+use Rattle.path_filter.proofs.PlanLaws.{FromChildAt, newest_length, before, found_in, found_own, found_child, stage_get, child_same}
+use Rattle.path_filter.proofs.PositionLaws.{fewer, after-at, search-in, search-here, search-own, search-children}
+use Rattle.path_filter.proofs.PrefixLaws.{front_knows, front_length, front_weight, made_front, made_small, refers_front, refers_small}
+use Rattle.path_filter.proofs.Ranks.{falls-size, falls-within, falls-work, falls-work-within, child_depth, some_depth}
+use Rattle.path_filter.proofs.SearchLaws.{one-at}
+use Rattle.path_filter.proofs.Views.{path-out}
+use Rattle.path_filter.proofs.+evaluate.Goals.{evaluate::advance-then-has+then-goes, evaluate::advance-then-stays, evaluate::advance-else-stays, evaluate::advance-then-has+else-goes, evaluate::advance-else-has, evaluate::own_attribute-else-meets-via-then-meets+else-suits, evaluate::own_attribute-else-meets-via-else-meets, evaluate::own_attributes-else-has-via-then-has+else-own_attribute, evaluate::own_attributes-else-has-via-else-has, evaluate::search-else-has-via-then-has+else-suits, evaluate::search-else-has-via-else-has, evaluate::search-in-Element+else-search, evaluate::search-in-Text, evaluate::first_from-in-Element+in_default-first_from, evaluate::first_from-in-Text, found::found_from-in-Element+else-is_done, found::found_from-in-Text}
+use Rattle.path_filter.proofs.+evaluate.Goals as goal
+
+pub visit::check_holds-returns-in-Differs : goal.visit::check_holds-returns-in-Differs
+visit::check_holds-returns-in-Differs t c =
+    let l = c.in-Compare.left in
+    let r = c.in-Compare.right in
+    let opened : check_of c.args.check.now ≡ compared (side (operand_of l.operand) (guards_of l)) differs (side (operand_of r.operand) (guards_of r)) =
+    ap check_of c.in-Compare.is ∙ compared-out l c.in-Compare.how r ∙ ap (λ h. compared (side (operand_of l.operand) (guards_of l)) (comparison_of h) (side (operand_of r.operand) (guards_of r))) c.in-Differs.is in
+    subst (λ k. IsTrue c.differs.result ↔ CheckHolds (Has c.args.here.now) (Has c.args.context.now.known.now) c.args.context.now.root.now c.args.at.now k) (sym opened) c.differs.ensures
+
+pub passes::add_from_child-add_one-requires : goal.passes::add_from_child-add_one-requires
+passes::add_from_child-add_one-requires t c =
+    let plan = c.args.plan.now in
+    let i = c.loop-i.i in
+    let x = c.index-plan-i.result in
+    let at = read plan i x c.loop-i-test.true c.index-plan-i.is in
+    let le : i ≤ length plan = omega (arith, c.loop-i-test.true) in
+    let front = front_length plan i le in
+    let same = newest_length (take i plan) [] in (
+      omega (arith, c.decreases, falls-size (weight (take i plan) + (size_of_checks (stage_checks x) + 3)) (weight plan) 0 (2 * depth c.args.child.now) c.args.root.now (omega (arith, front_weight plan i x at)) (omega arith)),
+      (
+        record { shallow = c.requires.shallow; made = made_front plan i c.requires.made; few = omega (arith, front, same, le, c.requires.few); knows = front_knows plan i (Has c.args.known.now) c.args.root.now c.loop-i-test.true c.requires.knows },
+        (c.requires.inside, (small_at plan i x c.requires.small at, (refers_front plan i x c.requires.made at, omega (arith, c.loop-i-test.true, c.requires.few)))),
+      ),
+    )
+
+pub found::found_from-visit_child-requires : goal.found::found_from-visit_child-requires
+found::found_from-visit_child-requires t c =
+    let at = read c.as_slice-child-items.result.now c.loop-child.child-index c.child-item.result c.loop-child-test.true c.child-item.is ∙ ap Some c.in-Element.is in
+    let deeper = child_depth c.args.at.now c.in-Element.inner c.loop-child.child-index (subst (λ ns. slice_get ns c.loop-child.child-index ≡ Some (tree.Element c.in-Element.inner)) c.as_slice-child-items.ensures at) in
+    let inside = c.requires.inside in (
+      omega (arith, c.decreases, falls-within (weight c.args.plan.now) (weight c.args.plan.now) (2 * depth c.in-Element.inner + 1) (2 * depth c.args.at.now) c.args.root.now (omega arith) (omega (arith, deeper))),
+      (c.requires.shallow, (omega (arith, deeper, inside), (c.requires.made, (c.requires.small, (c.requires.few, c.requires.knows))))),
+    )
+
+pub evaluate::admits-ask_check-requires : goal.evaluate::admits-ask_check-requires
+evaluate::admits-ask_check-requires t c =
+    let plan = c.args.context.now.plan.now in
+    record { small = refers_small (newest plan) (check_of c.args.guard.now) (omega (arith, c.requires.ready.few, newest_length plan [])) c.requires.refers }
+
+pub evaluate::admits-found_from-here-requires : goal.evaluate::admits-found_from-here-requires
+evaluate::admits-found_from-here-requires t c =
+    let plan = c.args.context.now.plan.now in
+    let ready = c.requires.ready in (
+      omega (arith, c.decreases, falls-size (weight plan) (weight plan + (size_of_check (check_of c.args.guard.now) + 1)) (2 * depth c.args.at.now) 0 c.args.context.now.root.now (omega arith) (omega (arith, c.requires.inside))),
+      (ready.shallow, (c.requires.inside, (ready.made, (made_small plan ready.few ready.made, (ready.few, λ j small of_document. ready.knows j of_document))))),
+    )
+
+pub evaluate::admits-check_holds-requires : goal.evaluate::admits-check_holds-requires
+evaluate::admits-check_holds-requires t c =
+    let plan = c.args.context.now.plan.now in
+    let size = size_of_check (check_of c.args.guard.now) in (
+      omega (arith, c.decreases, falls-work c.args.context.now size (size + 1) 0 0 (omega arith) (omega arith)),
+      (c.requires.ready, (c.requires.inside, (refers_small (newest plan) (check_of c.args.guard.now) (omega (arith, c.requires.ready.few, newest_length plan [])) c.requires.refers, c.requires.refers))),
+    )
+
+pub evaluate::admits-returns : goal.evaluate::admits-returns
+evaluate::admits-returns t c =
+    let same = guard_holds c.args.context.now.plan.now (Has c.ask_check.new.asked) (Has c.found_from-here.result) (Has c.args.context.now.known.now) c.args.context.now.root.now c.args.at.now (check_of c.args.guard.now)
+    c.requires.refers c.ask_check.ensures.asks c.found_from-here.ensures c.requires.ready.knows in
+    ((λ h. same.0 (c.check_holds.ensures.0 h)), (λ h. c.check_holds.ensures.1 (same.1 h)))
+
+pub evaluate::goes-returns-else-is_empty : goal.evaluate::goes-returns-else-is_empty
+evaluate::goes-returns-else-is_empty t c =
+    let x = c.args.step.now in
+    let root = c.args.context.now.root.now in
+    let stands = c.requires.stands root c.args.at.now in
+    λ rest. (
+      (λ h. goes_out x rest root c.args.at.now (λ is. contra _ (c.names_attributes.ensures.1 is) c.if-names_attributes.false) (meets-as (test_of x.test) _ _ _ _ c.as_str.ensures c.as_str-else-names_attributes.ensures (c.meets.ensures.0 c.if-not-meets.false)) (stands.0 (c.admits.ensures.0 h))),
+      (λ goes. c.admits.ensures.1 (stands.1 (goes_in x rest root c.args.at.now goes).2)),
+    )
+
+pub evaluate::advance-bounds-guards-i : goal.evaluate::advance-bounds-guards-i
+evaluate::advance-bounds-guards-i t c = omega (arith, guards_length (newest c.args.context.now.plan.now) c.args.steps.now c.args.guards.now c.requires.guarded, c.loop-i-test.true)
+
+pub evaluate::advance-offset_bounds-guards-i : goal.evaluate::advance-offset_bounds-guards-i
+evaluate::advance-offset_bounds-guards-i t c = omega (arith, fewer c.args.steps.now, c.requires.small, c.loop-i-test.true)
+
+pub evaluate::advance-goes-requires : goal.evaluate::advance-goes-requires
+evaluate::advance-goes-requires t c =
+    let plan = newest c.args.context.now.plan.now in
+    let steps = c.args.steps.now in
+    let guards = c.args.guards.now in
+    let i = c.loop-i.i in
+    let at = read steps i c.index-steps-i.result c.loop-i-test.true c.index-steps-i.is in
+    let guard = c.index-guards-i.result in
+    let there = read guards i guard (omega (arith, guards_length plan steps guards c.requires.guarded, c.loop-i-test.true)) c.index-guards-i.is in
+    let g = guard_at plan steps guards i c.index-steps-i.result guard c.requires.guarded at there in
+    (omega (arith, c.decreases, falls-work c.args.context.now (size_of_check (check_of guard) + 1) (size_of_guards guards) 1 0 g.smaller (omega arith)), (c.requires.ready, (c.requires.inside, (g.refers, g.stands))))
+
+pub evaluate::first_from-advance-next-requires : goal.evaluate::first_from-advance-next-requires
+evaluate::first_from-advance-next-requires t c =
+    let at = read c.as_slice-child-items.result.now c.loop-child.child-index c.child-item.result c.loop-child-test.true c.child-item.is ∙ ap Some c.in-Element.is in
+    let deeper = child_depth c.args.at.now c.in-Element.inner c.loop-child.child-index (subst (λ ns. slice_get ns c.loop-child.child-index ≡ Some (tree.Element c.in-Element.inner)) c.as_slice-child-items.ensures at) in
+    let inside = c.requires.inside in
+    let size = size_of_guards c.args.guards.now in (
+      omega (arith, c.decreases, falls-work-within c.args.context.now size size 0 (depth c.args.at.now + 1) (omega arith) (omega arith)),
+      (c.requires.ready, (omega (arith, deeper, inside), (c.requires.guarded, c.requires.small))),
+    )
+
+pub evaluate::first_from-first_from-requires : goal.evaluate::first_from-first_from-requires
+evaluate::first_from-first_from-requires t c =
+    let at = read c.as_slice-child-items.result.now c.loop-child.child-index c.child-item.result c.loop-child-test.true c.child-item.is ∙ ap Some c.in-Element.is in
+    let deeper = child_depth c.args.at.now c.in-Element.inner c.loop-child.child-index (subst (λ ns. slice_get ns c.loop-child.child-index ≡ Some (tree.Element c.in-Element.inner)) c.as_slice-child-items.ensures at) in
+    let inside = c.requires.inside in
+    let size = size_of_guards c.args.guards.now in (
+      omega (arith, c.decreases, falls-work-within c.args.context.now size size (depth c.in-Element.inner + 1) (depth c.args.at.now + 1) (omega arith) (omega (arith, deeper))),
+      (c.requires.ready, (omega (arith, deeper, inside), (c.requires.guarded, c.requires.small))),
+    )
+
+pub evaluate::search-advance-next-requires : goal.evaluate::search-advance-next-requires
+evaluate::search-advance-next-requires t c =
+    let at = read c.as_slice-child-items.result.now c.loop-child.child-index c.child-item.result c.loop-child-test.true c.child-item.is ∙ ap Some c.in-Element.is in
+    let deeper = child_depth c.args.at.now c.in-Element.inner c.loop-child.child-index (subst (λ ns. slice_get ns c.loop-child.child-index ≡ Some (tree.Element c.in-Element.inner)) c.as_slice-child-items.ensures at) in
+    let inside = c.requires.inside in
+    let size = size_of_guards c.args.guards.now in (
+      omega (arith, c.decreases, falls-work-within c.args.context.now size (size + size_of_wanted c.args.wanted.now) 0 (depth c.args.at.now + 1) (omega arith) (omega arith)),
+      (c.requires.ready, (omega (arith, deeper, inside), (c.requires.guarded, c.requires.small))),
+    )
+
+pub evaluate::search-search-requires : goal.evaluate::search-search-requires
+evaluate::search-search-requires t c =
+    let at = read c.as_slice-child-items.result.now c.loop-child.child-index c.child-item.result c.loop-child-test.true c.child-item.is ∙ ap Some c.in-Element.is in
+    let deeper = child_depth c.args.at.now c.in-Element.inner c.loop-child.child-index (subst (λ ns. slice_get ns c.loop-child.child-index ≡ Some (tree.Element c.in-Element.inner)) c.as_slice-child-items.ensures at) in
+    let inside = c.requires.inside in
+    let size = size_of_guards c.args.guards.now + size_of_wanted c.args.wanted.now in (
+      omega (arith, c.decreases, falls-work-within c.args.context.now size size (depth c.in-Element.inner + 1) (depth c.args.at.now + 1) (omega arith) (omega (arith, deeper))),
+      (c.requires.ready, (omega (arith, deeper, inside), (c.requires.guarded, (c.requires.small, c.requires.sound)))),
+    )
+
+pub evaluate::advance-has-requires : goal.evaluate::advance-has-requires
+evaluate::advance-has-requires t c = omega (arith, fewer c.args.steps.now, c.requires.small, c.loop-i-test.true)
+
+pub evaluate::advance-add-requires : goal.evaluate::advance-add-requires
+evaluate::advance-add-requires t c = omega (arith, fewer c.args.steps.now, c.requires.small, c.loop-i-test.true)
+
+pub evaluate::advance-add-requires-then-goes : goal.evaluate::advance-add-requires-then-goes
+evaluate::advance-add-requires-then-goes t c = omega (arith, fewer c.args.steps.now, c.requires.small, c.loop-i-test.true)
+
+pub evaluate::advance-loop-i-preserved : goal.evaluate::advance-loop-i-preserved
+evaluate::advance-loop-i-preserved t c =
+    let at = read c.args.steps.now c.loop-i.i c.index-steps-i.result c.loop-i-test.true c.index-steps-i.is in
+    let here = after-at c.args.steps.now c.loop-i.i c.index-steps-i.result at in
+    let rest = after (suc c.loop-i.i) (steps_of c.args.steps.now) in
+    elim c.if-has.branch [
+      | evaluate::advance-then-has+then-goes w ↦
+          advanced c.args.steps.now (Has c.args.reached.now) (Has c.loop-i.next) (Has w.if-stays.next) (Has c.if-has.next) c.args.context.now.root.now c.args.at.now c.loop-i.i (c.has.ensures.0 w.if-has.true) c.loop-i.invariant
+          (elim w.if-stays.branch [
+            | evaluate::advance-then-stays v ↦ subst (λ p. (j : ℕ) → Has p j ↔ (Has c.loop-i.next j ⊎ ((j ≡ c.loop-i.i) × Stays (after c.loop-i.i (steps_of c.args.steps.now))))) (sym v.next-is)
+                (added (Has c.loop-i.next) _ c.loop-i.i (Stays (after c.loop-i.i (steps_of c.args.steps.now))) v.add.ensures (subst Stays (sym here) ((w.stays.ensures rest).0 v.if-stays.true)))
+            | evaluate::advance-else-stays v ↦ subst (λ p. (j : ℕ) → Has p j ↔ (Has c.loop-i.next j ⊎ ((j ≡ c.loop-i.i) × Stays (after c.loop-i.i (steps_of c.args.steps.now))))) (sym v.next-is)
+                (not_added (Has c.loop-i.next) c.loop-i.i (Stays (after c.loop-i.i (steps_of c.args.steps.now))) (λ s. contra _ ((w.stays.ensures rest).1 (subst Stays here s)) v.if-stays.false))
+          ])
+          (subst (λ p. (j : ℕ) → Has p j ↔ (Has w.if-stays.next j ⊎ ((j ≡ c.loop-i.i + 1) × Goes (after c.loop-i.i (steps_of c.args.steps.now)) c.args.context.now.root.now c.args.at.now))) (sym w.next-is)
+          (added (Has w.if-stays.next) _ (c.loop-i.i + 1) (Goes (after c.loop-i.i (steps_of c.args.steps.now)) c.args.context.now.root.now c.args.at.now) w.add-then-goes.ensures (subst (λ s. Goes s c.args.context.now.root.now c.args.at.now) (sym here) ((w.goes.ensures rest).0 w.if-goes.true))))
+      | evaluate::advance-then-has+else-goes w ↦
+          advanced c.args.steps.now (Has c.args.reached.now) (Has c.loop-i.next) (Has w.if-stays.next) (Has c.if-has.next) c.args.context.now.root.now c.args.at.now c.loop-i.i (c.has.ensures.0 w.if-has.true) c.loop-i.invariant
+          (elim w.if-stays.branch [
+            | evaluate::advance-then-stays v ↦ subst (λ p. (j : ℕ) → Has p j ↔ (Has c.loop-i.next j ⊎ ((j ≡ c.loop-i.i) × Stays (after c.loop-i.i (steps_of c.args.steps.now))))) (sym v.next-is)
+                (added (Has c.loop-i.next) _ c.loop-i.i (Stays (after c.loop-i.i (steps_of c.args.steps.now))) v.add.ensures (subst Stays (sym here) ((w.stays.ensures rest).0 v.if-stays.true)))
+            | evaluate::advance-else-stays v ↦ subst (λ p. (j : ℕ) → Has p j ↔ (Has c.loop-i.next j ⊎ ((j ≡ c.loop-i.i) × Stays (after c.loop-i.i (steps_of c.args.steps.now))))) (sym v.next-is)
+                (not_added (Has c.loop-i.next) c.loop-i.i (Stays (after c.loop-i.i (steps_of c.args.steps.now))) (λ s. contra _ ((w.stays.ensures rest).1 (subst Stays here s)) v.if-stays.false))
+          ])
+          (subst (λ p. (j : ℕ) → Has p j ↔ (Has w.if-stays.next j ⊎ ((j ≡ c.loop-i.i + 1) × Goes (after c.loop-i.i (steps_of c.args.steps.now)) c.args.context.now.root.now c.args.at.now))) (sym w.next-is)
+          (not_added (Has w.if-stays.next) (c.loop-i.i + 1) (Goes (after c.loop-i.i (steps_of c.args.steps.now)) c.args.context.now.root.now c.args.at.now) (λ g. contra _ ((w.goes.ensures rest).1 (subst (λ s. Goes s c.args.context.now.root.now c.args.at.now) here g)) w.if-goes.false)))
+      | evaluate::advance-else-has w ↦
+          subst (λ p. (j : ℕ) → Has p j ↔ NextBelow (c.loop-i.i + 1) c.args.steps.now (Has c.args.reached.now) c.args.context.now.root.now c.args.at.now j) (sym w.next-is)
+          (skipped c.args.steps.now (Has c.args.reached.now) (Has c.loop-i.next) c.args.context.now.root.now c.args.at.now c.loop-i.i (λ r. contra _ (c.has.ensures.1 r) w.if-has.false) c.loop-i.invariant)
+    ]
+
+pub evaluate::finds-returns : goal.evaluate::finds-returns
+evaluate::finds-returns t c =
+    let steps_are = c.as_slice-steps.ensures in
+    let opened : path_of c.args.path.now ≡ path true (steps_of c.as_slice-steps.result.now) =
+    path-out c.args.path.now ∙ ap (λ b. path b (steps_of (out-Path c.args.path.now).steps)) c.if-not-path.false ∙ ap (λ ss. path true (steps_of ss)) (sym steps_are) in
+    let some : length c.as_slice-steps.result.now ≡ 0 → ⊥ = λ none. contra (length c.as_slice-steps.result.now == 0) (rw none refl) (sym c.is_empty.ensures ∙ c.if-is_empty.false) in (
+      (λ found. subst (λ p. PathFindsWanted p c.args.context.now.root.now c.args.at.now c.args.wanted.now) (sym opened)
+          (document-out c.as_slice-steps.result.now (Has c.only-start.result) c.args.context.now.root.now c.args.wanted.now (λ i. (c.only-start.ensures i).0)
+          (search-same c.as_slice-steps.result.now (Has c.advance-reached.result) (Next c.as_slice-steps.result.now (Has c.only-start.result) c.args.context.now.root.now c.args.context.now.root.now) c.args.context.now.root.now c.args.context.now.root.now c.args.wanted.now (λ j. (c.advance-reached.ensures j).0) (c.search-2.ensures.0 found)))),
+      (λ found. c.search-2.ensures.1
+          (search-same c.as_slice-steps.result.now (Next c.as_slice-steps.result.now (Has c.only-start.result) c.args.context.now.root.now c.args.context.now.root.now) (Has c.advance-reached.result) c.args.context.now.root.now c.args.context.now.root.now c.args.wanted.now (λ j. (c.advance-reached.ensures j).1)
+          (document-in c.as_slice-steps.result.now (Has c.only-start.result) c.args.context.now.root.now c.args.wanted.now (λ i. (c.only-start.ensures i).1) some
+          (subst (λ p. PathFindsWanted p c.args.context.now.root.now c.args.at.now c.args.wanted.now) opened found)))),
+    )
+
+pub evaluate::own_attribute-loop-attribute-init : goal.evaluate::own_attribute-loop-attribute-init
+evaluate::own_attribute-loop-attribute-init t c = λ rest found. subst (OneOf _) (sym c.as_slice-attribute-items.ensures) (own-in c.args.step.now rest c.args.context.now.root.now c.args.at.now c.args.wanted.now found).1
+
+pub evaluate::own_attribute-returns-then-suits : goal.evaluate::own_attribute-returns-then-suits
+evaluate::own_attribute-returns-then-suits t c =
+    let at = read c.as_slice-attribute-items.result.now c.loop-attribute.attribute-index c.attribute-item.result c.loop-attribute-test.true c.attribute-item.is in
+    let meets = meets-as (test_of c.args.step.now.test) _ _ _ _ c.as_str.ensures c.as_str-in-loop-attribute.ensures (c.meets.ensures.0 c.if-meets.true) in
+    let suits = subst (Suits c.args.wanted.now c.args.context.now.root.now) c.as_str-then-meets.ensures (c.suits.ensures.0 c.if-suits.true) in
+    let one : Attributes c.args.step.now c.args.context.now.root.now c.args.at.now c.args.wanted.now = subst (OneOf _) c.as_slice-attribute-items.ensures (one-at _ _ _ _ at (meets, suits)) in
+    λ rest. ((λ _. own-out c.args.step.now rest c.args.context.now.root.now c.args.at.now c.args.wanted.now (c.names_attributes.ensures.0 c.if-not-names_attributes.false) one), (λ _. refl))
+
+pub evaluate::own_attribute-loop-attribute-preserved : goal.evaluate::own_attribute-loop-attribute-preserved
+evaluate::own_attribute-loop-attribute-preserved t c =
+    let at = read c.as_slice-attribute-items.result.now c.loop-attribute.attribute-index c.attribute-item.result c.loop-attribute-test.true c.attribute-item.is in
+    λ rest found. one-next _ _ c.loop-attribute.attribute-index c.attribute-item.result at
+    (λ p. elim c.else-meets.branch [
+      | evaluate::own_attribute-else-meets-via-then-meets+else-suits w ↦ contra _ (w.suits.ensures.1 (subst (Suits c.args.wanted.now c.args.context.now.root.now) (sym w.as_str-then-meets.ensures) p.1)) w.if-suits.false
+      | evaluate::own_attribute-else-meets-via-else-meets w ↦ contra _ (c.meets.ensures.1 (meets-as (test_of c.args.step.now.test) _ _ _ _ (sym c.as_str.ensures) (sym c.as_str-in-loop-attribute.ensures) p.0)) w.if-meets.false
+    ])
+    (c.loop-attribute.invariant rest found)
+
+pub evaluate::own_attribute-returns : goal.evaluate::own_attribute-returns
+evaluate::own_attribute-returns t c = λ rest. ((λ claim. absurd (contra _ claim refl)), (λ found. absurd (one-past _ c.as_slice-attribute-items.result.now c.loop-attribute.attribute-index (omega (arith, c.loop-attribute-test.false)) (c.loop-attribute.invariant rest found))))
+
+pub evaluate::own_attributes-has-requires : goal.evaluate::own_attributes-has-requires
+evaluate::own_attributes-has-requires t c = omega (arith, fewer c.args.steps.now, c.requires.small, c.loop-i-test.true)
+
+pub evaluate::own_attributes-returns-then-own_attribute : goal.evaluate::own_attributes-returns-then-own_attribute
+evaluate::own_attributes-returns-then-own_attribute t c =
+    let at = read c.args.steps.now c.loop-i.i c.index-steps-i.result c.loop-i-test.true c.index-steps-i.is in (
+      (λ _. (
+        c.loop-i.i,
+        c.has.ensures.0 c.if-has.true,
+        c.loop-i-test.true,
+        subst (λ s. OwnAttribute s c.args.context.now.root.now c.args.at.now c.args.wanted.now) (sym (after-at c.args.steps.now c.loop-i.i c.index-steps-i.result at)) ((c.own_attribute.ensures (after (suc c.loop-i.i) (steps_of c.args.steps.now))).0 c.if-own_attribute.true),
+      )),
+      (λ _. refl),
+    )
+
+pub evaluate::own_attributes-loop-i-preserved : goal.evaluate::own_attributes-loop-i-preserved
+evaluate::own_attributes-loop-i-preserved t c =
+    let at = read c.args.steps.now c.loop-i.i c.index-steps-i.result c.loop-i-test.true c.index-steps-i.is in
+    λ k reached lt own. elim (below-more k c.loop-i.i lt) [
+      | inl same ↦ (elim c.else-has.branch [
+        | evaluate::own_attributes-else-has-via-then-has+else-own_attribute w ↦
+            contra _ ((w.own_attribute.ensures (after (suc c.loop-i.i) (steps_of c.args.steps.now))).1
+            (subst (λ s. OwnAttribute s c.args.context.now.root.now c.args.at.now c.args.wanted.now) (ap (λ n. after n (steps_of c.args.steps.now)) same ∙ after-at c.args.steps.now c.loop-i.i c.index-steps-i.result at) own)) w.if-own_attribute.false
+        | evaluate::own_attributes-else-has-via-else-has w ↦ contra _ (c.has.ensures.1 (subst (Has c.args.reached.now) same reached)) w.if-has.false
+      ])
+      | inr less ↦ c.loop-i.invariant k reached less own
+    ]
+
+pub evaluate::search-has-requires : goal.evaluate::search-has-requires
+evaluate::search-has-requires t c = omega (arith, fewer c.args.steps.now, c.requires.small)
+
+pub evaluate::search-returns-then-suits : goal.evaluate::search-returns-then-suits
+evaluate::search-returns-then-suits t c = ((λ _. search-here c.args.steps.now (Has c.args.reached.now) c.args.context.now.root.now c.args.at.now c.args.wanted.now (c.has.ensures.0 c.if-has.true) (c.suits.ensures.0 c.if-suits.true)), (λ _. refl))
+
+pub evaluate::search-returns-then-own_attributes : goal.evaluate::search-returns-then-own_attributes
+evaluate::search-returns-then-own_attributes t c = ((λ _. search-own c.args.steps.now (Has c.args.reached.now) c.args.context.now.root.now c.args.at.now c.args.wanted.now (c.own_attributes.ensures.0 c.if-own_attributes.true)), (λ _. refl))
+
+pub evaluate::search-loop-child-init : goal.evaluate::search-loop-child-init
+evaluate::search-loop-child-init t c =
+    λ found. elim (search-in c.args.steps.now (Has c.args.reached.now) c.args.context.now.root.now c.args.at.now c.args.wanted.now found) [
+      | inl here ↦ absurd (elim c.else-has.branch [
+        | evaluate::search-else-has-via-then-has+else-suits w ↦ contra _ (w.suits.ensures.1 here.1) w.if-suits.false
+        | evaluate::search-else-has-via-else-has w ↦ contra _ (c.has.ensures.1 here.0) w.if-has.false
+      ])
+      | inr rest ↦ (elim rest [
+        | inl own ↦ absurd (contra _ (c.own_attributes.ensures.1 own) c.if-own_attributes.false)
+        | inr below ↦ subst (λ ns. OneOf (λ x. SearchFinds c.args.steps.now (Next c.args.steps.now (Has c.args.reached.now) c.args.context.now.root.now x) c.args.context.now.root.now x c.args.wanted.now) (elements_in ns)) (sym c.as_slice-child-items.ensures) below
+      ])
+    ]
+
+pub evaluate::search-returns-then-search : goal.evaluate::search-returns-then-search
+evaluate::search-returns-then-search t c =
+    let at = read c.as_slice-child-items.result.now c.loop-child.child-index c.child-item.result c.loop-child-test.true c.child-item.is ∙ ap Some c.in-Element.is in
+    let found = search-same c.args.steps.now (Has c.advance-next.result) (Next c.args.steps.now (Has c.args.reached.now) c.args.context.now.root.now c.in-Element.inner) c.args.context.now.root.now c.in-Element.inner c.args.wanted.now (λ j. (c.advance-next.ensures j).0) (c.search.ensures.0 c.if-search.true) in (
+      (λ _. search-children c.args.steps.now (Has c.args.reached.now) c.args.context.now.root.now c.args.at.now c.args.wanted.now
+          (subst (λ ns. OneOf (λ x. SearchFinds c.args.steps.now (Next c.args.steps.now (Has c.args.reached.now) c.args.context.now.root.now x) c.args.context.now.root.now x c.args.wanted.now) (elements_in ns)) c.as_slice-child-items.ensures (element-one (λ x. SearchFinds c.args.steps.now (Next c.args.steps.now (Has c.args.reached.now) c.args.context.now.root.now x) c.args.context.now.root.now x c.args.wanted.now) _ c.loop-child.child-index c.in-Element.inner at found))),
+      (λ _. refl),
+    )
+
+pub evaluate::search-loop-child-preserved : goal.evaluate::search-loop-child-preserved
+evaluate::search-loop-child-preserved t c =
+    let item = read c.as_slice-child-items.result.now c.loop-child.child-index c.child-item.result c.loop-child-test.true c.child-item.is in
+    λ found. elim c.match-child.branch [
+      | evaluate::search-in-Element+else-search w ↦ element-next _ _ c.loop-child.child-index w.in-Element.inner (item ∙ ap Some w.in-Element.is)
+          (λ p. contra _ (w.search.ensures.1 (search-same c.args.steps.now (Next c.args.steps.now (Has c.args.reached.now) c.args.context.now.root.now w.in-Element.inner) (Has w.advance-next.result) c.args.context.now.root.now w.in-Element.inner c.args.wanted.now (λ j. (w.advance-next.ensures j).1) p)) w.if-search.false)
+          (c.loop-child.invariant found)
+      | evaluate::search-in-Text w ↦ text-next _ _ c.loop-child.child-index _ (item ∙ ap Some w.in-Text.is) (c.loop-child.invariant found)
+    ]
+
+pub evaluate::differ-returns-then-finds-2 : goal.evaluate::differ-returns-then-finds-2
+evaluate::differ-returns-then-finds-2 t c =
+    let p = path_of c.args.path.now in
+    let q = path_of c.args.other.now in (
+      (λ h. one_differs p q c.args.context.now.root.now c.args.at.now c.without_tree.result (c.finds-else-finds.ensures.0 c.if-finds-2.true) (c.finds-then-finds-2.ensures.0 h) (λ o. contra _ (c.finds.ensures.1 o) c.if-finds.false)),
+      (λ d. not_false _ (λ is. all_one p q c.args.context.now.root.now c.args.at.now c.without_tree.result (λ o. contra _ (c.finds.ensures.1 o) c.if-finds.false) (λ o. contra _ (c.finds-then-finds-2.ensures.1 o) is) d)),
+    )
+
+pub evaluate::first-returns-clause-some : goal.evaluate::first-returns-clause-some
+evaluate::first-returns-clause-some t c =
+    let steps = c.as_slice-steps.result.now in
+    let root = c.args.context.now.root.now in
+    let opened : path_of c.args.path.now ≡ path true (steps_of steps) =
+    path-out c.args.path.now ∙ ap (λ b. path b (steps_of (out-Path c.args.path.now).steps)) c.if-not-path.false ∙ ap (λ ss. path true (steps_of ss)) (sym c.as_slice-steps.ensures) in
+    if_some (λ f. IsShallow f × SearchFinds steps (Has c.advance-reached.result) root root (exactly f)) (λ f. IsShallow f × PathFindsWanted (path_of c.args.path.now) root c.args.at.now (exactly f)) c.first_from-2.result
+    (λ f (shallow, found). (
+      shallow,
+      subst (λ p. PathFindsWanted p root c.args.at.now (exactly f)) (sym opened)
+          (document-out steps (Has c.only-start.result) root (exactly f) (λ i. (c.only-start.ensures i).0)
+          (search-same steps (Has c.advance-reached.result) (Next steps (Has c.only-start.result) root root) root root (exactly f) (λ j. (c.advance-reached.ensures j).0) found)),
+    ))
+    c.first_from-2.ensures.some
+
+pub evaluate::first-returns-clause-none : goal.evaluate::first-returns-clause-none
+evaluate::first-returns-clause-none t c =
+    let steps = c.as_slice-steps.result.now in
+    let root = c.args.context.now.root.now in
+    let opened : path_of c.args.path.now ≡ path true (steps_of steps) =
+    path-out c.args.path.now ∙ ap (λ b. path b (steps_of (out-Path c.args.path.now).steps)) c.if-not-path.false ∙ ap (λ ss. path true (steps_of ss)) (sym c.as_slice-steps.ensures) in
+    let some : length steps ≡ 0 → ⊥ = λ none. contra (length steps == 0) (rw none refl) (sym c.is_empty.ensures ∙ c.if-is_empty.false) in
+    if_none (SearchFinds steps (Has c.advance-reached.result) root root anything → ⊥) (PathFindsWanted (path_of c.args.path.now) root c.args.at.now anything → ⊥) c.first_from-2.result
+    (λ none found. none
+    (search-same steps (Next steps (Has c.only-start.result) root root) (Has c.advance-reached.result) root root anything (λ j. (c.advance-reached.ensures j).1)
+    (document-in steps (Has c.only-start.result) root anything (λ i. (c.only-start.ensures i).1) some (subst (λ p. PathFindsWanted p root c.args.at.now anything) opened found))))
+    c.first_from-2.ensures.none
+
+pub evaluate::first_from-has-requires : goal.evaluate::first_from-has-requires
+evaluate::first_from-has-requires t c = omega (arith, fewer c.args.steps.now, c.requires.small)
+
+pub evaluate::first_from-returns-then-has-clause-some : goal.evaluate::first_from-returns-then-has-clause-some
+evaluate::first_from-returns-then-has-clause-some t c = (
+  omega (arith, c.requires.ready.shallow, c.requires.inside),
+  search-here c.args.steps.now (Has c.args.reached.now) c.args.context.now.root.now c.args.at.now (exactly (places.Element c.args.at)) (c.has.ensures.0 c.if-has.true) refl,
+)
+
+pub evaluate::first_from-returns-in-Some-clause-some : goal.evaluate::first_from-returns-in-Some-clause-some
+evaluate::first_from-returns-in-Some-clause-some t c = (
+  c.in-Some.ensures.some.0,
+  search-own c.args.steps.now (Has c.args.reached.now) c.args.context.now.root.now c.args.at.now (exactly c.in-Some.found) (c.in-Some.ensures.some.1 c.args.context.now.root.now),
+)
+
+pub evaluate::first_from-loop-child-init : goal.evaluate::first_from-loop-child-init
+evaluate::first_from-loop-child-init t c =
+    λ found. elim (search-in c.args.steps.now (Has c.args.reached.now) c.args.context.now.root.now c.args.at.now anything found) [
+      | inl here ↦ absurd (contra _ (c.has.ensures.1 here.0) c.if-has.false)
+      | inr rest ↦ (elim rest [
+        | inl own ↦ absurd (c.in_default.ensures.none c.args.context.now.root.now own)
+        | inr below ↦ subst (λ ns. OneOf (λ x. SearchFinds c.args.steps.now (Next c.args.steps.now (Has c.args.reached.now) c.args.context.now.root.now x) c.args.context.now.root.now x anything) (elements_in ns)) (sym c.as_slice-child-items.ensures) below
+      ])
+    ]
+
+pub evaluate::first_from-returns-in-Some-first_from-clause-some : goal.evaluate::first_from-returns-in-Some-first_from-clause-some
+evaluate::first_from-returns-in-Some-first_from-clause-some t c =
+    let at = read c.as_slice-child-items.result.now c.loop-child.child-index c.child-item.result c.loop-child-test.true c.child-item.is ∙ ap Some c.in-Element.is in
+    let w = exactly c.in-Some-first_from.found in
+    let found = search-same c.args.steps.now (Has c.advance-next.result) (Next c.args.steps.now (Has c.args.reached.now) c.args.context.now.root.now c.in-Element.inner) c.args.context.now.root.now c.in-Element.inner w (λ j. (c.advance-next.ensures j).0) c.in-Some-first_from.ensures.some.1 in (
+      c.in-Some-first_from.ensures.some.0,
+      search-children c.args.steps.now (Has c.args.reached.now) c.args.context.now.root.now c.args.at.now w
+          (subst (λ ns. OneOf (λ x. SearchFinds c.args.steps.now (Next c.args.steps.now (Has c.args.reached.now) c.args.context.now.root.now x) c.args.context.now.root.now x w) (elements_in ns)) c.as_slice-child-items.ensures
+          (element-one (λ x. SearchFinds c.args.steps.now (Next c.args.steps.now (Has c.args.reached.now) c.args.context.now.root.now x) c.args.context.now.root.now x w) _ c.loop-child.child-index c.in-Element.inner at found)),
+    )
+
+pub evaluate::first_from-loop-child-preserved : goal.evaluate::first_from-loop-child-preserved
+evaluate::first_from-loop-child-preserved t c =
+    let item = read c.as_slice-child-items.result.now c.loop-child.child-index c.child-item.result c.loop-child-test.true c.child-item.is in
+    λ found. elim c.match-child.branch [
+      | evaluate::first_from-in-Element+in_default-first_from w ↦ element-next _ _ c.loop-child.child-index w.in-Element.inner (item ∙ ap Some w.in-Element.is)
+          (λ p. w.in_default-first_from.ensures.none (search-same c.args.steps.now (Next c.args.steps.now (Has c.args.reached.now) c.args.context.now.root.now w.in-Element.inner) (Has w.advance-next.result) c.args.context.now.root.now w.in-Element.inner anything (λ j. (w.advance-next.ensures j).1) p))
+          (c.loop-child.invariant found)
+      | evaluate::first_from-in-Text w ↦ text-next _ _ c.loop-child.child-index _ (item ∙ ap Some w.in-Text.is) (c.loop-child.invariant found)
+    ]
+
+pub evaluate::first_from-returns-clause-none : goal.evaluate::first_from-returns-clause-none
+evaluate::first_from-returns-clause-none t c =
+    λ found. subst (λ ns. OneOf (λ x. SearchFinds c.args.steps.now (Next c.args.steps.now (Has c.args.reached.now) c.args.context.now.root.now x) c.args.context.now.root.now x anything) (elements_in ns))
+    (past-end c.as_slice-child-items.result.now c.loop-child.child-index (omega (arith, c.loop-child-test.false))) (c.loop-child.invariant found)
+
+pub found::found_from-loop-child-init : goal.found::found_from-loop-child-init
+found::found_from-loop-child-init t c =
+    let plan = newest c.args.plan.now in record {
+      sound = λ i x at asked has. found_own plan i x c.args.root.now c.args.at.now (before plan i x c.requires.made (stage_get c.args.plan.now i x at)) ((c.own-found.ensures i x at asked).0 has);
+      complete = λ i x at asked finds. elim (found_in plan i x c.args.root.now c.args.at.now (before plan i x c.requires.made (stage_get c.args.plan.now i x at)) finds) [
+        | inl owns ↦ inl ((c.own-found.ensures i x at asked).1 owns)
+        | inr below ↦ inr (subst (λ ns. OneOf (FromChildAt plan c.args.root.now i x) (elements_in ns)) (sym c.as_slice-child-items.ensures) below)
+      ];
+    }
+
+pub found::found_from-returns-then-is_done : goal.found::found_from-returns-then-is_done
+found::found_from-returns-then-is_done t c = λ i x at asked. (
+  (λ has. c.loop-child.invariant.sound i x at asked has),
+  (λ _. c.is_done.ensures c.if-is_done.true i (within c.args.plan.now i x at) asked),
+)
+
+pub found::found_from-loop-child-preserved : goal.found::found_from-loop-child-preserved
+found::found_from-loop-child-preserved t c =
+    let plan = newest c.args.plan.now in
+    let item = read c.as_slice-child-items.result.now c.loop-child.child-index c.child-item.result c.loop-child-test.true c.child-item.is in
+    elim c.match-child.branch [
+      | found::found_from-in-Element+else-is_done w ↦
+          (let at = item ∙ ap Some w.in-Element.is in
+          record {
+            sound = λ i x there asked has_new.
+                let has = subst (λ p. Has p i) w.found-is has_new in
+                elim (has_or_not c.loop-child.found i) [
+                  | inl was ↦ c.loop-child.invariant.sound i x there asked was
+                  | inr not ↦ found_child plan i x c.args.root.now c.args.at.now (before plan i x c.requires.made (stage_get c.args.plan.now i x there))
+                      (subst (λ ns. OneOf (FromChildAt plan c.args.root.now i x) (elements_in ns)) c.as_slice-child-items.ensures
+                      (element-one (FromChildAt plan c.args.root.now i x) _ c.loop-child.child-index w.in-Element.inner at ((w.visit_child.ensures.adds i x there asked not).0 has)))
+                ];
+            complete = λ i x there asked finds.
+                elim (c.loop-child.invariant.complete i x there asked finds) [
+                  | inl was ↦ inl (subst (λ p. Has p i) (sym w.found-is) (w.visit_child.ensures.keeps i x there asked was))
+                  | inr one ↦ (elim (element-split (FromChildAt plan c.args.root.now i x) _ c.loop-child.child-index w.in-Element.inner at one) [
+                    | inl from ↦ (elim (has_or_not c.loop-child.found i) [
+                      | inl was ↦ inl (subst (λ p. Has p i) (sym w.found-is) (w.visit_child.ensures.keeps i x there asked was))
+                      | inr not ↦ inl (subst (λ p. Has p i) (sym w.found-is) ((w.visit_child.ensures.adds i x there asked not).1 from))
+                    ])
+                    | inr later ↦ inr later
+                  ])
+                ];
+          })
+      | found::found_from-in-Text w ↦ record {
+        sound = λ i x there asked has. c.loop-child.invariant.sound i x there asked (subst (λ p. Has p i) w.found-is has);
+        complete = λ i x there asked finds. elim (c.loop-child.invariant.complete i x there asked finds) [
+          | inl was ↦ inl (subst (λ p. Has p i) (sym w.found-is) was)
+          | inr one ↦ inr (text-next _ _ c.loop-child.child-index _ (item ∙ ap Some w.in-Text.is) one)
+        ];
+      }
+    ]
+
+pub found::visit_child-returns-clause-keeps : goal.found::visit_child-returns-clause-keeps
+found::visit_child-returns-clause-keeps t c = λ i x at asked was. (c.add_from_child.ensures i x at asked).1 (inl was)
+
+pub found::visit_child-returns-clause-adds : goal.found::visit_child-returns-clause-adds
+found::visit_child-returns-clause-adds t c = λ i x at asked not.
+    let new = c.add_from_child.ensures i x at asked in
+    let same = child_same c.args.plan.now (Has c.asked_of_child-below_asked.result) (Has c.found_from-below.result) (Has c.args.known.now) c.args.root.now c.args.child.now i x
+    c.requires.made at (within c.args.plan.now i x at) (c.asked_of_child-below_asked.ensures i x at asked not) c.found_from-below.ensures c.requires.knows in (
+      (λ has. elim (new.0 has) [ inl was ↦ absurd (not was) | inr from ↦ same.0 from ]),
+      (λ from. new.1 (inr (same.1 from))),
+    )
+
+pub passes::add_from_child-loop-i-preserved : goal.passes::add_from_child-loop-i-preserved
+passes::add_from_child-loop-i-preserved t c =
+    skip_marked c.args.plan.now (Has c.args.asked.now) (Has c.args.found.now) (Has c.add_one.new.found) (FromChild (Has c.args.below.now) (Has c.args.known.now) c.args.root.now c.args.child.now) (c.loop-i.i + 1) c.next-i-in-loop-i.result
+    c.next-i-in-loop-i.ensures.forward c.next-i-in-loop-i.ensures.skips
+    (one_marked c.args.plan.now (Has c.args.asked.now) (Has c.args.found.now) (Has c.loop-i.found) (Has c.add_one.new.found) (FromChild (Has c.args.below.now) (Has c.args.known.now) c.args.root.now c.args.child.now) c.loop-i.i c.index-plan-i.result
+    (read c.args.plan.now c.loop-i.i c.index-plan-i.result c.loop-i-test.true c.index-plan-i.is) c.add_one.ensures c.loop-i.invariant)
+
+pub passes::add_from_child-returns : goal.passes::add_from_child-returns
+passes::add_from_child-returns t c = all_marked c.args.plan.now (Has c.args.asked.now) (Has c.args.found.now) (Has c.loop-i.found) (FromChild (Has c.args.below.now) (Has c.args.known.now) c.args.root.now c.args.child.now) c.loop-i.i (omega (arith, c.loop-i-test.false)) c.loop-i.invariant
+

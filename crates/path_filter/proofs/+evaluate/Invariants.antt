@@ -1,0 +1,124 @@
+use Rattle.std.proofs.Common.{◌≡◌, ◌⊎◌, ◌↔◌, ◌<◌, ◌+◌, ◌-◌, ◌*◌, ℕ, List, Some, drop, length, map}
+use Rattle.std.specs.List.{slice_get}
+use Rattle.filter_text.specs.Filter.{Steps}
+use Rattle.filter_text.specs.View.{front_of, steps_of, test_of}
+use Rattle.voe_tree.specs.Contents.{elements_in}
+use Rattle.voe_tree.specs.Shape.{depth}
+use Rattle.path_filter.specs.Contexts.{work}
+use Rattle.path_filter.specs.Evaluate.{SearchFinds, OwnAttribute, Next, NextBelow}
+use Rattle.path_filter.specs.Marks.{MarkedBelow}
+use Rattle.path_filter.specs.Meaning.{MeetsName}
+use Rattle.path_filter.specs.Plan.{At, FromChild, check_of, newest, size_of_check, size_of_checks, size_of_guards, stage_checks, weight}
+use Rattle.path_filter.specs.Positions.{Has}
+use Rattle.path_filter.specs.Search.{OneOf, after, rank}
+use Rattle.path_filter.specs.Wanted.{Suits, anything, size_of_wanted}
+use Rattle.path_filter.specs.declared.plan.Stage.{Stage}
+use Rattle.path_filter.proofs.PlanLaws.{FromChildAt}
+use Rattle.path_filter.proofs.+evaluate.Given as goal
+
+abbrev pub decreases-visit::check_holds : goal.decreases-visit::check_holds
+decreases-visit::check_holds l = work l.context.now (size_of_check (check_of l.check.now)) 0
+
+abbrev pub decreases-visit::each_holds : goal.decreases-visit::each_holds
+decreases-visit::each_holds l = work l.context.now (size_of_guards l.checks.now) 0
+
+abbrev pub decreases-visit::one_holds : goal.decreases-visit::one_holds
+decreases-visit::one_holds l = work l.context.now (size_of_guards l.checks.now) 0
+
+abbrev pub decreases-visit::arrives : goal.decreases-visit::arrives
+decreases-visit::arrives l = work l.context.now (size_of_checks (stage_checks l.stage.now) + 1) 0
+
+abbrev pub decreases-visit::is_from_child : goal.decreases-visit::is_from_child
+decreases-visit::is_from_child l = work l.context.now (size_of_checks (stage_checks l.stage.now) + 2) 0
+
+abbrev pub decreases-passes::add_one : goal.decreases-passes::add_one
+decreases-passes::add_one l = work l.context.now (size_of_checks (stage_checks l.stage.now) + 3) 0
+
+abbrev pub decreases-passes::add_from_child : goal.decreases-passes::add_from_child
+decreases-passes::add_from_child l = rank (weight l.plan.now) (2 * depth l.child.now) l.root.now
+
+abbrev pub decreases-found::found_from : goal.decreases-found::found_from
+decreases-found::found_from l = rank (weight l.plan.now) (2 * depth l.at.now) l.root.now
+
+abbrev pub decreases-found::visit_child : goal.decreases-found::visit_child
+decreases-found::visit_child l = rank (weight l.plan.now) (2 * depth l.child.now + 1) l.root.now
+
+abbrev pub decreases-evaluate::compares : goal.decreases-evaluate::compares
+decreases-evaluate::compares l = work l.context.now (size_of_guards l.left.now.guards + size_of_guards l.right.now.guards + 6) 0
+
+abbrev pub decreases-evaluate::differs : goal.decreases-evaluate::differs
+decreases-evaluate::differs l = work l.context.now (size_of_guards l.left.now.guards + size_of_guards l.right.now.guards + 6) 1
+
+abbrev pub decreases-evaluate::differ : goal.decreases-evaluate::differ
+decreases-evaluate::differ l = work l.context.now (size_of_guards l.guards.now + size_of_guards l.other_guards.now + 5) 0
+
+abbrev pub decreases-evaluate::relates : goal.decreases-evaluate::relates
+decreases-evaluate::relates l = work l.context.now (size_of_guards l.side.now.guards + 2) 0
+
+abbrev pub decreases-evaluate::first : goal.decreases-evaluate::first
+decreases-evaluate::first l = work l.context.now (size_of_guards l.guards.now + 1) 0
+
+abbrev pub decreases-evaluate::first_from : goal.decreases-evaluate::first_from
+decreases-evaluate::first_from l = work l.context.now (size_of_guards l.guards.now) (depth l.at.now + 1)
+
+abbrev pub decreases-evaluate::finds : goal.decreases-evaluate::finds
+decreases-evaluate::finds l = work l.context.now (size_of_guards l.guards.now + size_of_wanted l.wanted.now + 1) 0
+
+abbrev pub decreases-evaluate::search : goal.decreases-evaluate::search
+decreases-evaluate::search l = work l.context.now (size_of_guards l.guards.now + size_of_wanted l.wanted.now) (depth l.at.now + 1)
+
+abbrev pub decreases-evaluate::advance : goal.decreases-evaluate::advance
+decreases-evaluate::advance l = work l.context.now (size_of_guards l.guards.now) 0
+
+abbrev pub decreases-evaluate::goes : goal.decreases-evaluate::goes
+decreases-evaluate::goes l = work l.context.now (size_of_check (check_of l.guard.now) + 1) 1
+
+abbrev pub decreases-evaluate::admits : goal.decreases-evaluate::admits
+decreases-evaluate::admits l = work l.context.now (size_of_check (check_of l.guard.now) + 1) 0
+
+abbrev pub decreases-evaluate::own_attributes : goal.decreases-evaluate::own_attributes
+decreases-evaluate::own_attributes l = work l.context.now (size_of_wanted l.wanted.now) 2
+
+abbrev pub decreases-evaluate::own_attribute : goal.decreases-evaluate::own_attribute
+decreases-evaluate::own_attribute l = work l.context.now (size_of_wanted l.wanted.now) 1
+
+abbrev pub decreases-evaluate::suits : goal.decreases-evaluate::suits
+decreases-evaluate::suits l = work l.context.now (size_of_wanted l.wanted.now) 0
+
+abbrev pub invariant-evaluate::advance-loop-i : goal.invariant-evaluate::advance-loop-i
+invariant-evaluate::advance-loop-i l = (j : ℕ) → Has l.next j ↔ NextBelow l.i l.steps (Has l.reached) l.context.root.now l.at j
+
+-- What is found is found at an attribute that is not yet seen.
+abbrev pub invariant-evaluate::own_attribute-loop-attribute : goal.invariant-evaluate::own_attribute-loop-attribute
+invariant-evaluate::own_attribute-loop-attribute l =
+    (rest : Steps) → OwnAttribute (front_of l.step rest) l.context.root.now l.at l.wanted
+    → OneOf (λ a. MeetsName (test_of l.step.test) a.space a.local × Suits l.wanted l.context.root.now a.value) (drop l.attribute-index l.attribute-items)
+
+abbrev pub invariant-evaluate::own_attributes-loop-i : goal.invariant-evaluate::own_attributes-loop-i
+invariant-evaluate::own_attributes-loop-i l = (k : ℕ) → Has l.reached k → k < l.i → OwnAttribute (after k (steps_of l.steps)) l.context.root.now l.at l.wanted → ⊥
+
+-- What is found is found from a child that is not yet seen.
+abbrev pub invariant-evaluate::search-loop-child : goal.invariant-evaluate::search-loop-child
+invariant-evaluate::search-loop-child l =
+    SearchFinds l.steps (Has l.reached) l.context.root.now l.at l.wanted
+    → OneOf (λ c. SearchFinds l.steps (Next l.steps (Has l.reached) l.context.root.now c) l.context.root.now c l.wanted) (elements_in (drop l.child-index l.child-items))
+
+abbrev pub invariant-evaluate::first_from-loop-child : goal.invariant-evaluate::first_from-loop-child
+invariant-evaluate::first_from-loop-child l =
+    SearchFinds l.steps (Has l.reached) l.context.root.now l.at anything
+    → OneOf (λ c. SearchFinds l.steps (Next l.steps (Has l.reached) l.context.root.now c) l.context.root.now c anything) (elements_in (drop l.child-index l.child-items))
+
+-- What is found so far is found from the element, and what is found from it is found so far or from a child not yet seen.
+abbrev pub invariant-found::found_from-loop-child : goal.invariant-found::found_from-loop-child
+invariant-found::found_from-loop-child l = record {
+  sound : (i : ℕ) (x : Stage) → slice_get l.plan i ≡ Some x → Has l.asked i → Has l.found i → At (newest l.plan) l.root i l.at;
+  complete : (i : ℕ) (x : Stage) → slice_get l.plan i ≡ Some x → Has l.asked i → At (newest l.plan) l.root i l.at
+      → Has l.found i ⊎ OneOf (FromChildAt (newest l.plan) l.root i x) (elements_in (drop l.child-index l.child-items));
+}
+
+
+abbrev pub invariant-passes::add_from_child-loop-i : goal.invariant-passes::add_from_child-loop-i
+invariant-passes::add_from_child-loop-i l = MarkedBelow l.i l.plan (Has l.asked) (Has l.fn.found) (Has l.found) (FromChild (Has l.below) (Has l.known) l.root l.child)
+
+abbrev pub decreases-passes::add_from_child-loop-i : goal.decreases-passes::add_from_child-loop-i
+decreases-passes::add_from_child-loop-i l = length l.plan - l.i
