@@ -196,6 +196,10 @@ contra b holds fails = let bad : true ≡ false = sym holds ∙ fails in (let ab
 pub meets-as : (test : _) (a b x y : Text) → a ≡ x → b ≡ y → MeetsName test a b → MeetsName test x y
 meets-as test a b x y s l m = subst (λ z. MeetsName test x z) l (subst (λ z. MeetsName test z b) s m)
 
+pub no_steps : (ss : List Step) → length ss ≡ 0 → steps_of ss ≡ arrived
+no_steps [] none = refl
+no_steps (x ∷ ss) none = absurd (omega (arith, none))
+
 next-same : (ss : List Step) (R T : ℕ → Type 0) (root e : Element) (j : ℕ) → ((i : ℕ) → R i → T i) → Next ss R root e j → Next ss T root e j
 next-same ss R T root e j more (inl (i, r, lt, is, goes)) = inl (i, more i r, lt, is, goes)
 next-same ss R T root e j more (inr (r, lt, stays)) = inr (more j r, lt, stays)

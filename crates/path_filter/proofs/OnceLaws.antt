@@ -1,12 +1,12 @@
 -- Conditions that are the same at each element, and the step that tries one at the root.
-use Rattle.std.proofs.Common.{◌≡◌, ◌≤◌, ℕ, Bool, true, false, List, [], ◌∷◌, Some, refl, ap, arith}
+use Rattle.std.proofs.Common.{◌≡◌, ℕ, Bool, true, false, List, [], ◌∷◌, Some, refl, ap, arith}
 use Rattle.std.specs.Bool.{IsTrue}
 use Rattle.std.specs.Prelude.{IfOk, Result, Ok, Err}
 use Rattle.std.specs.List.{slice_get}
 use mathlib.Core.Bool.{not}
 use Rattle.voe_tree.specs.Contents.{string_of}
 use Rattle.voe_tree.specs.declared.element.Element.{Element}
-use Rattle.filter_text.specs.Filter.{Comparison, Condition, Operand, Path, child, compare, element, any, arrived, found, literal, local_name, more, no_more, path, step}
+use Rattle.filter_text.specs.Filter.{Comparison, Condition, Operand, child, compare, element, any, arrived, found, literal, local_name, more, no_more, path, step}
 use Rattle.path_filter.specs.Places.{document, element_below}
 use Rattle.path_filter.specs.Plan.{IsMade, IsOfDocument, anywhere}
 use Rattle.path_filter.specs.Planned.{Follows, Grows, IsFromDocument, IsSameEverywhere, Means, Starts}

@@ -1,5 +1,5 @@
 -- The string values of elements_in.
-use Rattle.std.proofs.Common.{◌≡◌, ◌↔◌, ℕ, List, [], ◌∷◌, ◌++◌, map, drop, sym, ◌∙◌, ap, append_assoc, Some, length, ◌+◌, ◌≤◌}
+use Rattle.std.proofs.Common.{◌≡◌, ◌↔◌, ℕ, List, [], ◌∷◌, ◌++◌, map, drop, sym, ◌∙◌, ap, append-nil, append_assoc, Some, length, ◌+◌, ◌≤◌}
 use Rattle.std.specs.List.{slice_get}
 use Rattle.voe_tree.specs.declared.element.Element.{Element, fold_out-Element}
 use Rattle.voe_tree.specs.declared.element.Node.{Node}
@@ -9,6 +9,7 @@ use Rattle.voe_tree.specs.declared.element.Node.TheVariants as tree
 use Rattle.filter_text.specs.Filter.{Text}
 use Rattle.std.specs.List.{concat}
 use Rattle.voe_tree.specs.Contents.{node_text, element_text, string_of, string_in}
+use Rattle.path_filter.specs.Places.{document}
 use Rattle.path_filter.proofs.EvaluateSteps.{from-place, past-end}
 
 abbrev pub texts_of : List Node → Text
@@ -22,6 +23,10 @@ of-element e = ap string_in (sym (tree.rolls-Element e)) ∙ fold-roll-Node Text
 
 pub of-text : (t : Text) → string_in (tree.Text t) ≡ t
 of-text t = ap string_in (sym (tree.rolls-Text t)) ∙ fold-roll-Node Text Text node_text element_text (Node-F.Text t)
+
+-- a document has the text of its root
+pub of_document : (root : Element) → string_of root ≡ string_of (document root)
+of_document root = sym (text_out (document root) ∙ append-nil (string_in (tree.Element root)) ∙ of-element root)
 
 pub texts-element : (ns : List Node) (i : ℕ) (e : Element) (after : Text) → slice_get ns i ≡ Some (tree.Element e)
     → texts_of (drop i ns) ++ after ≡ string_of e ++ (texts_of (drop (i + 1) ns) ++ after)

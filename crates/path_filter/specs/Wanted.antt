@@ -1,5 +1,5 @@
 -- What a search looks for.
-use Rattle.std.specs.Prelude.{ℕ, ◌+◌, ◌≤◌}
+use Rattle.std.specs.Prelude.{◌≡◌, ℕ, ◌+◌, ◌≤◌}
 use Rattle.voe_tree.specs.declared.element.Element.{Element}
 use Rattle.filter_text.specs.Filter.{Text}
 use Rattle.voe_tree.specs.Contents.{string_of}
@@ -31,6 +31,14 @@ anything = wanted.Anything
 -- the string that was found
 abbrev pub exactly : Found → Wanted
 exactly f = wanted.Related comparisons.Equal f
+
+-- a string that differs from the one that was found
+abbrev pub unlike : Found → Wanted
+unlike f = wanted.Related comparisons.Differs f
+
+-- what can be compared and has the same string
+abbrev pub IsLike : Found → Found → Type 0
+IsLike like f = IsShallow f × (text_found f ≡ text_found like)
 
 -- the string is what is wanted
 abbrev pub Suits : Wanted → Element → Text → Type 0

@@ -11,8 +11,9 @@ ghost use Rattle.path_filter.specs.Meaning.{MeetsName, Related};
 ghost use Rattle.path_filter.specs.Plan.{AreGuards, CheckRefers, Guarded, StandsFor, check_of, checks_of, guards_of, newest};
 ghost use Rattle.path_filter.specs.Positions.{Has};
 ghost use Rattle.path_filter.specs.Search.{Is};
-ghost use Rattle.path_filter.specs.Wanted.{IsShallow, IsSound, Suits, anything, exactly, text_found};
+ghost use Rattle.path_filter.specs.Wanted.{IsLike, IsShallow, IsSound, Suits, anything, exactly, text_found, unlike};
 
+use crate::alike::{attributes_like, if_like, itself_like};
 use crate::context::Context;
 use crate::found::found_from;
 use crate::plan::{Check, Side};
@@ -43,7 +44,7 @@ fn stays(step: &Step) -> bool
     }
 }
 
-fn names_attributes(step: &Step) -> bool
+pub fn names_attributes(step: &Step) -> bool
     ensures { IsTrue result ↔ (part_of step.now.part ≡ attribute) }
 {
     match step.part {
@@ -58,19 +59,6 @@ pub fn are_related(left: Found<'_>, how: Comparison, right: Found<'_>) -> bool
     ensures { IsTrue result ↔ Related (comparison_of how) (text_found left.entry) (text_found right.entry) }
 {
     have_same_text(left, right) == (how == Comparison::Equal)
-}
-
-/// The same string. Where it is empty there is no tree behind it, which each comparison would have to go over.
-fn without_tree(found: Found<'_>) -> Found<'_>
-    requires { IsShallow found }
-    ensures same { text_found result ≡ text_found found.entry }
-    ensures shallow { IsShallow result }
-{
-    if have_same_text(found, Found::Text("")) {
-        Found::Text("")
-    } else {
-        found
-    }
 }
 
 /// Whether some string of the one side is so related to some string of the other.
@@ -173,12 +161,13 @@ fn differ(
     };
     match first(path, guards, &near, &*at) {
         None => false,
-        Some(found) => {
-            let unlike = Wanted::Related(Comparison::Differs, without_tree(found));
-            finds(other, other_guards, context, at, &unlike)
-                || (finds(other, other_guards, context, at, &Wanted::Anything)
-                    && finds(path, guards, context, at, &unlike))
-        }
+        Some(found) => match all_like(other, other_guards, &near, &*at, found) {
+            None => true,
+            Some(last) => {
+                finds(other, other_guards, context, at, &Wanted::Anything)
+                    && all_like(path, guards, &near, &*at, last).is_none()
+            }
+        },
     }
 }
 
@@ -279,6 +268,68 @@ fn attribute_of<'a>(step: &Step, at: &'a Element) -> Option<Found<'a>>
         }
     }
     None
+}
+
+/// The last place that the path finds, where all that it finds have the text of `like`, or `like` where it finds none.
+/// Each is compared with the one found before it, since one text can be much longer to go over than another like it.
+#[cycle(evaluate)]
+fn all_like<'a>(
+    path: &Path,
+    guards: &[Check],
+    context: &Context<'a>,
+    at: &'a Element,
+    like: Found<'a>,
+) -> Option<Found<'a>>
+    requires like { IsShallow like }
+    requires ready { IsReady context.now }
+    requires inside { depth at.now ≤ depth context.now.root.now }
+    requires guarded { Guarded (newest context.now.plan.now) (path_operand (path_of path.now)) (checks_of (map check_of guards.now)) }
+    requires small { steps_in_path (path_of path.now) ≤ 512 }
+    ensures some { IfSome result (λ last. IsLike like.entry last × (PathFindsWanted (path_of path.now) context.now.root.now at.now (unlike like.entry) → ⊥)) }
+    ensures none { IfNone result (PathFindsWanted (path_of path.now) context.now.root.now at.now (unlike like.entry)) }
+{
+    let steps = path.steps.as_slice();
+    let start = Positions::only(0);
+    if !path.is_absolute {
+        return all_like_from(steps, guards, &start, context, at, like);
+    }
+    if steps.is_empty() {
+        return if_like(Found::Element(context.root), like);
+    }
+    let reached = advance(steps, guards, &start, context, context.root);
+    all_like_from(steps, guards, &reached, context, context.root, like)
+}
+
+/// The same of what is found from an element at which these positions are reached.
+#[cycle(evaluate)]
+fn all_like_from<'a>(
+    steps: &[Step],
+    guards: &[Check],
+    reached: &Positions,
+    context: &Context<'_>,
+    at: &'a Element,
+    like: Found<'a>,
+) -> Option<Found<'a>>
+    requires like { IsShallow like }
+    requires ready { IsReady context.now }
+    requires inside { depth at.now ≤ depth context.now.root.now }
+    requires guarded { AreGuards (newest context.now.plan.now) (steps_of steps.now) (checks_of (map check_of guards.now)) }
+    requires small { steps_in_steps (steps_of steps.now) ≤ 512 }
+    ensures some { IfSome result (λ last. IsLike like.entry last × (SearchFinds steps.now (Has reached.now) context.now.root.now at.now (unlike like.entry) → ⊥)) }
+    ensures none { IfNone result (SearchFinds steps.now (Has reached.now) context.now.root.now at.now (unlike like.entry)) }
+{
+    let itself = itself_like(steps, reached, at, like)?;
+    let mut last = attributes_like(steps, reached, at, itself)?;
+    for child in at.children.as_slice() {
+        match child {
+            Node::Element(inner) => {
+                let next = advance(steps, guards, reached, context, inner);
+                last = all_like_from(steps, guards, &next, context, inner, last)?;
+            }
+            Node::Text(_) => {}
+        }
+    }
+    Some(last)
 }
 
 /// Whether the path finds what is wanted.

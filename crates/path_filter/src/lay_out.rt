@@ -124,11 +124,7 @@ fn plan_condition(
 
 /// The check of an operand alone.
 #[cycle(planning)]
-fn plan_alone(
-    alloc: Global,
-    plan: &mut Items<Stage>,
-    operand: &Operand,
-) -> Result<Check, NoMemory>
+fn plan_alone(alloc: Global, plan: &mut Items<Stage>, operand: &Operand) -> Result<Check, NoMemory>
     requires made { IsMade (newest plan.old) }
     requires small { steps_in_operand (operand_of operand.now) ≤ 512 }
     ensures grows { OnOk result (Grows (newest plan.old) (newest plan.new) (steps_in_operand (operand_of operand.now))) }

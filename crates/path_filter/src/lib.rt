@@ -5,6 +5,7 @@
 //! The sets of a node's links are read once from its configuration.
 #![tactic(auto)]
 
+mod alike;
 mod context;
 mod copy;
 mod cursor;

@@ -40,12 +40,7 @@ fn goes_on(next: &Next, here: &Positions, at: &Element) -> bool
 
 /// Whether the check holds at the element, from which these positions find something.
 #[cycle(evaluate)]
-pub fn check_holds(
-    check: &Check,
-    here: &Positions,
-    context: &Context<'_>,
-    at: &Element,
-) -> bool
+pub fn check_holds(check: &Check, here: &Positions, context: &Context<'_>, at: &Element) -> bool
     requires ready { IsReady context.now }
     requires inside { depth at.now ≤ depth context.now.root.now }
     requires small { CheckIsSmall (check_of check.now) }
@@ -66,12 +61,7 @@ pub fn check_holds(
 }
 
 #[cycle(evaluate)]
-fn each_holds(
-    checks: &[Check],
-    here: &Positions,
-    context: &Context<'_>,
-    at: &Element,
-) -> bool
+fn each_holds(checks: &[Check], here: &Positions, context: &Context<'_>, at: &Element) -> bool
     requires ready { IsReady context.now }
     requires inside { depth at.now ≤ depth context.now.root.now }
     requires small { ChecksAreSmall (checks_of (map check_of checks.now)) }
@@ -87,12 +77,7 @@ fn each_holds(
 }
 
 #[cycle(evaluate)]
-fn one_holds(
-    checks: &[Check],
-    here: &Positions,
-    context: &Context<'_>,
-    at: &Element,
-) -> bool
+fn one_holds(checks: &[Check], here: &Positions, context: &Context<'_>, at: &Element) -> bool
     requires ready { IsReady context.now }
     requires inside { depth at.now ≤ depth context.now.root.now }
     requires small { ChecksAreSmall (checks_of (map check_of checks.now)) }

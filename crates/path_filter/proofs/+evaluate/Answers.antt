@@ -1,33 +1,32 @@
-use Rattle.std.proofs.Common.{◌≡◌, ◌↔◌, ◌⊎◌, inl, inr, Some, true, ◌<◌, ◌+◌, ◌*◌, ℕ, suc, length, map, take, [], IsTrue, ◌≤◌, arith, refl, sym, ◌∙◌, ap, subst}
+use Rattle.std.proofs.Common.{◌≡◌, ◌↔◌, ◌⊎◌, inl, inr, Some, true, ◌+◌, ◌*◌, ℕ, suc, length, eqb-true, ◌≢◌, take, [], IsTrue, ◌≤◌, arith, refl, sym, ◌∙◌, ap, subst}
 use Rattle.std.specs.Bool.{◌==◌}
 use Rattle.std.specs.List.{slice_get}
-use Rattle.filter_text.specs.Filter.{path, differs}
-use Rattle.filter_text.specs.Size.{steps_in_path, steps_in_steps}
+use Rattle.filter_text.specs.Filter.{arrived, path, differs}
 use Rattle.filter_text.specs.View.{comparison_of, operand_of, path_of, steps_of, test_of}
 use Rattle.filter_text.specs.declared.filter.Path.{out-Path}
-use Rattle.voe_tree.specs.Contents.{elements_in}
+use Rattle.voe_tree.specs.Contents.{elements_in, string_of}
 use Rattle.voe_tree.specs.Shape.{depth}
 use Rattle.voe_tree.specs.declared.element.Node.TheVariants as tree
-use Rattle.path_filter.specs.Contexts.{work}
 use Rattle.path_filter.specs.Evaluate.{Goes, Stays, SearchFinds, OwnAttribute, PathFindsWanted, Next, NextBelow}
 use Rattle.path_filter.specs.Plan.{CheckHolds, FromChild, check_of, compared, guards_of, newest, side, size_of_check, size_of_checks, size_of_guards, stage_checks, weight}
 use Rattle.path_filter.specs.Positions.{Has}
-use Rattle.path_filter.specs.Search.{OneOf, after, rank}
-use Rattle.path_filter.specs.Wanted.{IsShallow, Suits, anything, exactly, size_of_wanted}
+use Rattle.path_filter.specs.Search.{OneOf, after}
+use Rattle.path_filter.specs.Wanted.{IsLike, IsShallow, Suits, anything, exactly, size_of_wanted, text_found, unlike}
 use Rattle.path_filter.specs.declared.wanted.Found.TheVariants as places
 use Rattle.path_filter.proofs.CheckViews.{compared-out}
-use Rattle.path_filter.proofs.DifferLaws.{all_one, if_none, if_some, not_false, one_differs}
-use Rattle.path_filter.proofs.EvaluateSteps.{read, one-next, one-past, element-next, element-split, text-next, element-one, search-same, Attributes, own-in, own-out, added, not_added, advanced, skipped, contra, meets-as, below-more, document-in, document-out, past-end}
-use Rattle.path_filter.proofs.GuardLaws.{guard_at, guard_holds, guards_length, goes_in, goes_out, some_checks}
+use Rattle.path_filter.proofs.DifferLaws.{if_none, if_some, none_so, others_decide, owns_unlike, search_unlike}
+use Rattle.path_filter.proofs.EvaluateSteps.{read, one-next, one-past, element-next, element-split, text-next, element-one, search-same, Attributes, own-in, own-out, added, not_added, advanced, skipped, contra, meets-as, below-more, document-in, document-out, no_steps, past-end}
+use Rattle.path_filter.proofs.GuardLaws.{guard_at, guard_holds, guards_length, goes_in, goes_out}
 use Rattle.path_filter.proofs.HasLaws.{has_or_not}
 use Rattle.path_filter.proofs.MarkLaws.{small_at, skip_marked, one_marked, all_marked, within}
 use Rattle.path_filter.proofs.PlanLaws.{FromChildAt, newest_length, before, found_in, found_own, found_child, stage_get, child_same}
 use Rattle.path_filter.proofs.PositionLaws.{fewer, after-at, search-in, search-here, search-own, search-children}
 use Rattle.path_filter.proofs.PrefixLaws.{front_knows, front_length, front_weight, made_front, made_small, refers_front, refers_small}
-use Rattle.path_filter.proofs.Ranks.{falls-size, falls-within, falls-work, falls-work-within, child_depth, some_depth}
+use Rattle.path_filter.proofs.Ranks.{falls-size, falls-within, falls-work, falls-work-within, child_depth}
 use Rattle.path_filter.proofs.SearchLaws.{one-at}
+use Rattle.path_filter.proofs.Texts.{of_document}
 use Rattle.path_filter.proofs.Views.{path-out}
-use Rattle.path_filter.proofs.+evaluate.Goals.{evaluate::advance-then-has+then-goes, evaluate::advance-then-stays, evaluate::advance-else-stays, evaluate::advance-then-has+else-goes, evaluate::advance-else-has, evaluate::own_attribute-else-meets-via-then-meets+else-suits, evaluate::own_attribute-else-meets-via-else-meets, evaluate::own_attributes-else-has-via-then-has+else-own_attribute, evaluate::own_attributes-else-has-via-else-has, evaluate::search-else-has-via-then-has+else-suits, evaluate::search-else-has-via-else-has, evaluate::search-in-Element+else-search, evaluate::search-in-Text, evaluate::first_from-in-Element+in_default-first_from, evaluate::first_from-in-Text, found::found_from-in-Element+else-is_done, found::found_from-in-Text}
+use Rattle.path_filter.proofs.+evaluate.Goals.{evaluate::advance-then-has+then-goes, evaluate::advance-then-stays, evaluate::advance-else-stays, evaluate::advance-then-has+else-goes, evaluate::advance-else-has, evaluate::own_attribute-else-meets-via-then-meets+else-suits, evaluate::own_attribute-else-meets-via-else-meets, evaluate::own_attributes-else-has-via-then-has+else-own_attribute, evaluate::own_attributes-else-has-via-else-has, evaluate::search-else-has-via-then-has+else-suits, evaluate::search-else-has-via-else-has, evaluate::search-in-Element+else-search, evaluate::search-in-Text, evaluate::first_from-in-Element+in_default-first_from, evaluate::first_from-in-Text, evaluate::all_like_from-in-Element+in_ok-last-in-Element, evaluate::all_like_from-in-Text, found::found_from-in-Element+else-is_done, found::found_from-in-Text}
 use Rattle.path_filter.proofs.+evaluate.Goals as goal
 
 pub visit::check_holds-returns-in-Differs : goal.visit::check_holds-returns-in-Differs
@@ -306,14 +305,6 @@ evaluate::search-loop-child-preserved t c =
       | evaluate::search-in-Text w ↦ text-next _ _ c.loop-child.child-index _ (item ∙ ap Some w.in-Text.is) (c.loop-child.invariant found)
     ]
 
-pub evaluate::differ-returns-then-finds-2 : goal.evaluate::differ-returns-then-finds-2
-evaluate::differ-returns-then-finds-2 t c =
-    let p = path_of c.args.path.now in
-    let q = path_of c.args.other.now in (
-      (λ h. one_differs p q c.args.context.now.root.now c.args.at.now c.without_tree.result (c.finds-else-finds.ensures.0 c.if-finds-2.true) (c.finds-then-finds-2.ensures.0 h) (λ o. contra _ (c.finds.ensures.1 o) c.if-finds.false)),
-      (λ d. not_false _ (λ is. all_one p q c.args.context.now.root.now c.args.at.now c.without_tree.result (λ o. contra _ (c.finds.ensures.1 o) c.if-finds.false) (λ o. contra _ (c.finds-then-finds-2.ensures.1 o) is) d)),
-    )
-
 pub evaluate::first-returns-clause-some : goal.evaluate::first-returns-clause-some
 evaluate::first-returns-clause-some t c =
     let steps = c.as_slice-steps.result.now in
@@ -468,3 +459,124 @@ passes::add_from_child-loop-i-preserved t c =
 pub passes::add_from_child-returns : goal.passes::add_from_child-returns
 passes::add_from_child-returns t c = all_marked c.args.plan.now (Has c.args.asked.now) (Has c.args.found.now) (Has c.loop-i.found) (FromChild (Has c.args.below.now) (Has c.args.known.now) c.args.root.now c.args.child.now) c.loop-i.i (omega (arith, c.loop-i-test.false)) c.loop-i.invariant
 
+pub evaluate::differ-returns-then-finds : goal.evaluate::differ-returns-then-finds
+evaluate::differ-returns-then-finds t c =
+    others_decide (path_of c.args.path.now) (path_of c.args.other.now) c.args.context.now.root.now c.args.at.now c.in-Some.found c.in-Some-all_like.last c.all_like-then-finds.result c.is_none.result
+    c.in-Some-all_like.ensures.some.0.1 (c.finds.ensures.0 c.if-finds.true) c.in-Some-all_like.ensures.some.1 c.all_like-then-finds.ensures.none c.all_like-then-finds.ensures.some c.is_none.ensures
+
+pub evaluate::all_like-returns-then-is_empty-clause-none : goal.evaluate::all_like-returns-then-is_empty-clause-none
+evaluate::all_like-returns-then-is_empty-clause-none t c =
+    let steps = c.as_slice-steps.result.now in
+    let opened : path_of c.args.path.now ≡ path true (steps_of steps) =
+    path-out c.args.path.now ∙ ap (λ b. path b (steps_of (out-Path c.args.path.now).steps)) c.if-not-path.false ∙ ap (λ ss. path true (steps_of ss)) (sym c.as_slice-steps.ensures) in
+    let empty : steps_of steps ≡ arrived = no_steps steps (eqb-true (length steps) 0 (sym c.is_empty.ensures ∙ c.if-is_empty.true)) in
+    if_none (string_of c.args.context.now.root.now ≢ text_found c.args.like) (PathFindsWanted (path_of c.args.path.now) c.args.context.now.root.now c.args.at.now (unlike c.args.like)) c.if_like.result
+    (λ differs. subst (λ p. PathFindsWanted p c.args.context.now.root.now c.args.at.now (unlike c.args.like)) (sym (opened ∙ ap (path true) empty)) (string_of c.args.context.now.root.now, of_document c.args.context.now.root.now, differs))
+    c.if_like.ensures.none
+
+pub evaluate::all_like-returns-clause-some : goal.evaluate::all_like-returns-clause-some
+evaluate::all_like-returns-clause-some t c =
+    let steps = c.as_slice-steps.result.now in
+    let root = c.args.context.now.root.now in
+    let w = unlike c.args.like in
+    let opened : path_of c.args.path.now ≡ path true (steps_of steps) =
+    path-out c.args.path.now ∙ ap (λ b. path b (steps_of (out-Path c.args.path.now).steps)) c.if-not-path.false ∙ ap (λ ss. path true (steps_of ss)) (sym c.as_slice-steps.ensures) in
+    let some : length steps ≡ 0 → ⊥ = λ none. contra (length steps == 0) (rw none refl) (sym c.is_empty.ensures ∙ c.if-is_empty.false) in
+    if_some (λ last. IsLike c.args.like last × (SearchFinds steps (Has c.advance-reached.result) root root w → ⊥)) (λ last. IsLike c.args.like last × (PathFindsWanted (path_of c.args.path.now) root c.args.at.now w → ⊥)) c.all_like_from-2.result
+    (λ last (like, none). (
+      like,
+      λ found. none
+          (search-same steps (Next steps (Has c.only-start.result) root root) (Has c.advance-reached.result) root root w (λ j. (c.advance-reached.ensures j).1)
+          (document-in steps (Has c.only-start.result) root w (λ i. (c.only-start.ensures i).1) some (subst (λ p. PathFindsWanted p root c.args.at.now w) opened found))),
+    ))
+    c.all_like_from-2.ensures.some
+
+pub evaluate::all_like-returns-clause-none : goal.evaluate::all_like-returns-clause-none
+evaluate::all_like-returns-clause-none t c =
+    let steps = c.as_slice-steps.result.now in
+    let root = c.args.context.now.root.now in
+    let w = unlike c.args.like in
+    let opened : path_of c.args.path.now ≡ path true (steps_of steps) =
+    path-out c.args.path.now ∙ ap (λ b. path b (steps_of (out-Path c.args.path.now).steps)) c.if-not-path.false ∙ ap (λ ss. path true (steps_of ss)) (sym c.as_slice-steps.ensures) in
+    if_none (SearchFinds steps (Has c.advance-reached.result) root root w) (PathFindsWanted (path_of c.args.path.now) root c.args.at.now w) c.all_like_from-2.result
+    (λ found. subst (λ p. PathFindsWanted p root c.args.at.now w) (sym opened)
+    (document-out steps (Has c.only-start.result) root w (λ i. (c.only-start.ensures i).0)
+    (search-same steps (Has c.advance-reached.result) (Next steps (Has c.only-start.result) root root) root root w (λ j. (c.advance-reached.ensures j).0) found)))
+    c.all_like_from-2.ensures.none
+
+pub evaluate::all_like_from-returns-in_err-itself-clause-none : goal.evaluate::all_like_from-returns-in_err-itself-clause-none
+evaluate::all_like_from-returns-in_err-itself-clause-none t c =
+    none_so _ _ (search-here c.args.steps.now (Has c.args.reached.now) c.args.context.now.root.now c.args.at.now (unlike c.args.like) c.in_err-itself.ensures.none.0 c.in_err-itself.ensures.none.1)
+
+pub evaluate::all_like_from-returns-in_err-last-clause-none : goal.evaluate::all_like_from-returns-in_err-last-clause-none
+evaluate::all_like_from-returns-in_err-last-clause-none t c =
+    none_so _ _ (search-own c.args.steps.now (Has c.args.reached.now) c.args.context.now.root.now c.args.at.now (unlike c.args.like)
+    (owns_unlike c.args.steps.now (Has c.args.reached.now) c.args.context.now.root.now c.args.at.now c.args.like c.in_ok-itself.itself c.in_ok-itself.ensures.some.0.1 (c.in_err-last.ensures.none c.args.context.now.root.now)))
+
+pub evaluate::all_like_from-loop-child-init : goal.evaluate::all_like_from-loop-child-init
+evaluate::all_like_from-loop-child-init t c =
+    let w = unlike c.args.like in
+    record {
+      like = (c.in_ok-last.ensures.some.0.0, c.in_ok-last.ensures.some.0.1 ∙ c.in_ok-itself.ensures.some.0.1);
+      unseen = λ found. elim (search-in c.args.steps.now (Has c.args.reached.now) c.args.context.now.root.now c.args.at.now w found) [
+        | inl here ↦ absurd (here.1 (c.in_ok-itself.ensures.some.1 here.0))
+        | inr rest ↦ (elim rest [
+          | inl own ↦ absurd (c.in_ok-last.ensures.some.1 c.args.context.now.root.now (owns_unlike c.args.steps.now (Has c.args.reached.now) c.args.context.now.root.now c.args.at.now c.in_ok-itself.itself c.args.like (sym c.in_ok-itself.ensures.some.0.1) own))
+          | inr below ↦ subst (λ ns. OneOf (λ x. SearchFinds c.args.steps.now (Next c.args.steps.now (Has c.args.reached.now) c.args.context.now.root.now x) c.args.context.now.root.now x w) (elements_in ns)) (sym c.as_slice-child-items.ensures) below
+        ])
+      ];
+    }
+
+pub evaluate::all_like_from-returns-in_err-last-in-Element-clause-none : goal.evaluate::all_like_from-returns-in_err-last-in-Element-clause-none
+evaluate::all_like_from-returns-in_err-last-in-Element-clause-none t c =
+    let steps = c.args.steps.now in
+    let root = c.args.context.now.root.now in
+    let inner = c.in-Element.inner in
+    let w = unlike c.args.like in
+    let at = read c.as_slice-child-items.result.now c.loop-child.child-index c.child-item.result c.loop-child-test.true c.child-item.is ∙ ap Some c.in-Element.is in
+    let found = search-same steps (Has c.advance-next.result) (Next steps (Has c.args.reached.now) root inner) root inner w (λ j. (c.advance-next.ensures j).0)
+    (search_unlike steps (Has c.advance-next.result) root inner c.args.like c.loop-child.last c.loop-child.invariant.like.1 c.in_err-last-in-Element.ensures.none) in
+    none_so _ _ (search-children steps (Has c.args.reached.now) root c.args.at.now w
+    (subst (λ ns. OneOf (λ x. SearchFinds steps (Next steps (Has c.args.reached.now) root x) root x w) (elements_in ns)) c.as_slice-child-items.ensures
+    (element-one (λ x. SearchFinds steps (Next steps (Has c.args.reached.now) root x) root x w) _ c.loop-child.child-index inner at found)))
+
+pub evaluate::all_like_from-loop-child-preserved : goal.evaluate::all_like_from-loop-child-preserved
+evaluate::all_like_from-loop-child-preserved t c =
+    let steps = c.args.steps.now in
+    let root = c.args.context.now.root.now in
+    let w = unlike c.args.like in
+    let item = read c.as_slice-child-items.result.now c.loop-child.child-index c.child-item.result c.loop-child-test.true c.child-item.is in
+    elim c.match-child.branch [
+      | evaluate::all_like_from-in-Element+in_ok-last-in-Element v ↦ record {
+        like = subst (IsLike c.args.like) (sym v.last-is) (v.in_ok-last-in-Element.ensures.some.0.0, v.in_ok-last-in-Element.ensures.some.0.1 ∙ c.loop-child.invariant.like.1);
+        unseen = λ found. element-next _ _ c.loop-child.child-index v.in-Element.inner (item ∙ ap Some v.in-Element.is)
+            (λ p. v.in_ok-last-in-Element.ensures.some.1
+            (search_unlike steps (Has v.advance-next.result) root v.in-Element.inner c.loop-child.last c.args.like (sym c.loop-child.invariant.like.1)
+            (search-same steps (Next steps (Has c.args.reached.now) root v.in-Element.inner) (Has v.advance-next.result) root v.in-Element.inner w (λ j. (v.advance-next.ensures j).1) p)))
+            (c.loop-child.invariant.unseen found);
+      }
+      | evaluate::all_like_from-in-Text v ↦ record {
+        like = subst (IsLike c.args.like) (sym v.last-is) c.loop-child.invariant.like;
+        unseen = λ found. text-next _ _ c.loop-child.child-index _ (item ∙ ap Some v.in-Text.is) (c.loop-child.invariant.unseen found);
+      }
+    ]
+
+pub evaluate::all_like_from-advance-next-requires : goal.evaluate::all_like_from-advance-next-requires
+evaluate::all_like_from-advance-next-requires t c =
+    let at = read c.as_slice-child-items.result.now c.loop-child.child-index c.child-item.result c.loop-child-test.true c.child-item.is ∙ ap Some c.in-Element.is in
+    let deeper = child_depth c.args.at.now c.in-Element.inner c.loop-child.child-index (subst (λ ns. slice_get ns c.loop-child.child-index ≡ Some (tree.Element c.in-Element.inner)) c.as_slice-child-items.ensures at) in
+    let inside = c.requires.inside in
+    let size = size_of_guards c.args.guards.now in (
+      omega (arith, c.decreases, falls-work-within c.args.context.now size size 0 (depth c.args.at.now + 1) (omega arith) (omega arith)),
+      (c.requires.ready, (omega (arith, deeper, inside), (c.requires.guarded, c.requires.small))),
+    )
+
+pub evaluate::all_like_from-all_like_from-requires : goal.evaluate::all_like_from-all_like_from-requires
+evaluate::all_like_from-all_like_from-requires t c =
+    let at = read c.as_slice-child-items.result.now c.loop-child.child-index c.child-item.result c.loop-child-test.true c.child-item.is ∙ ap Some c.in-Element.is in
+    let deeper = child_depth c.args.at.now c.in-Element.inner c.loop-child.child-index (subst (λ ns. slice_get ns c.loop-child.child-index ≡ Some (tree.Element c.in-Element.inner)) c.as_slice-child-items.ensures at) in
+    let inside = c.requires.inside in
+    let size = size_of_guards c.args.guards.now in (
+      omega (arith, c.decreases, falls-work-within c.args.context.now size size (depth c.in-Element.inner + 1) (depth c.args.at.now + 1) (omega arith) (omega (arith, deeper))),
+      (c.loop-child.invariant.like.0, (c.requires.ready, (omega (arith, deeper, inside), (c.requires.guarded, c.requires.small)))),
+    )

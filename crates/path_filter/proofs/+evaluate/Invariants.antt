@@ -1,4 +1,4 @@
-use Rattle.std.proofs.Common.{◌≡◌, ◌⊎◌, ◌↔◌, ◌<◌, ◌+◌, ◌-◌, ◌*◌, ℕ, List, Some, drop, length, map}
+use Rattle.std.proofs.Common.{◌≡◌, ◌⊎◌, ◌↔◌, ◌<◌, ◌+◌, ◌-◌, ◌*◌, ℕ, Some, drop, length}
 use Rattle.std.specs.List.{slice_get}
 use Rattle.filter_text.specs.Filter.{Steps}
 use Rattle.filter_text.specs.View.{front_of, steps_of, test_of}
@@ -11,7 +11,7 @@ use Rattle.path_filter.specs.Meaning.{MeetsName}
 use Rattle.path_filter.specs.Plan.{At, FromChild, check_of, newest, size_of_check, size_of_checks, size_of_guards, stage_checks, weight}
 use Rattle.path_filter.specs.Positions.{Has}
 use Rattle.path_filter.specs.Search.{OneOf, after, rank}
-use Rattle.path_filter.specs.Wanted.{Suits, anything, size_of_wanted}
+use Rattle.path_filter.specs.Wanted.{IsLike, Suits, anything, size_of_wanted, unlike}
 use Rattle.path_filter.specs.declared.plan.Stage.{Stage}
 use Rattle.path_filter.proofs.PlanLaws.{FromChildAt}
 use Rattle.path_filter.proofs.+evaluate.Given as goal
@@ -60,6 +60,12 @@ decreases-evaluate::first l = work l.context.now (size_of_guards l.guards.now + 
 
 abbrev pub decreases-evaluate::first_from : goal.decreases-evaluate::first_from
 decreases-evaluate::first_from l = work l.context.now (size_of_guards l.guards.now) (depth l.at.now + 1)
+
+abbrev pub decreases-evaluate::all_like : goal.decreases-evaluate::all_like
+decreases-evaluate::all_like l = work l.context.now (size_of_guards l.guards.now + 1) 0
+
+abbrev pub decreases-evaluate::all_like_from : goal.decreases-evaluate::all_like_from
+decreases-evaluate::all_like_from l = work l.context.now (size_of_guards l.guards.now) (depth l.at.now + 1)
 
 abbrev pub decreases-evaluate::finds : goal.decreases-evaluate::finds
 decreases-evaluate::finds l = work l.context.now (size_of_guards l.guards.now + size_of_wanted l.wanted.now + 1) 0
@@ -116,9 +122,16 @@ invariant-found::found_from-loop-child l = record {
       → Has l.found i ⊎ OneOf (FromChildAt (newest l.plan) l.root i x) (elements_in (drop l.child-index l.child-items));
 }
 
-
 abbrev pub invariant-passes::add_from_child-loop-i : goal.invariant-passes::add_from_child-loop-i
 invariant-passes::add_from_child-loop-i l = MarkedBelow l.i l.plan (Has l.asked) (Has l.fn.found) (Has l.found) (FromChild (Has l.below) (Has l.known) l.root l.child)
 
 abbrev pub decreases-passes::add_from_child-loop-i : goal.decreases-passes::add_from_child-loop-i
 decreases-passes::add_from_child-loop-i l = length l.plan - l.i
+
+-- What differs is found from a child that is not yet seen.
+abbrev pub invariant-evaluate::all_like_from-loop-child : goal.invariant-evaluate::all_like_from-loop-child
+invariant-evaluate::all_like_from-loop-child l = record {
+  like : IsLike l.fn.like l.last;
+  unseen : SearchFinds l.steps (Has l.reached) l.context.root.now l.at (unlike l.fn.like)
+      → OneOf (λ c. SearchFinds l.steps (Next l.steps (Has l.reached) l.context.root.now c) l.context.root.now c (unlike l.fn.like)) (elements_in (drop l.child-index l.child-items));
+}

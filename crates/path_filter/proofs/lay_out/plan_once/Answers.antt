@@ -1,6 +1,6 @@
-use Rattle.std.proofs.Common.{◌+◌, arith, subst, sym}
+use Rattle.std.proofs.Common.{subst, sym}
 use Rattle.filter_text.specs.Filter.{arrived, step, child, element, any, more, no_more}
-use Rattle.path_filter.specs.Plan.{anywhere, newest}
+use Rattle.path_filter.specs.Plan.{newest}
 use Rattle.path_filter.specs.Planned.{Means}
 use Rattle.path_filter.specs.declared.plan.Sought.TheVariants as sought
 use Rattle.path_filter.proofs.CheckViews.{anywhere-out}
