@@ -27,6 +27,10 @@ const NESTED: &str =
 const PAIRS: &str =
     "<r k='1'><p k='1'>t</p><p k='1'>t</p><q k='1' m='2'>t</q><s k='3'>u<e/></s><v><w>t</w></v></r>";
 
+/// Elements that a condition within a path tells from others of their name.
+const GUARDED: &str =
+    "<r><a k='1'><b k='1'><c/></b><d/></a><a k='2'><b k='2'/><a k='3'><b k='3'><c><d/></c></b></a></a><x k='3'/><x k='1'/></r>";
+
 /// Elements whose names are words of filters.
 const WORDS: &str = "<and><or/><not/></and>";
 
@@ -192,6 +196,42 @@ fn strings_of_two_paths_differ_where_they_are_not_all_one(rt: HostRuntime) {
             // Within the path of another comparison.
             ("/r[p[@k!=//q/@k]/@k=q/@k]", false),
             ("/r[s[@k!=//q/@k]!=p]", true),
+        ],
+    );
+}
+
+#[test]
+fn conditions_within_compared_paths_choose_what_is_compared(rt: HostRuntime) {
+    let alloc = rt.alloc();
+    answers(
+        &rt,
+        alloc,
+        GUARDED,
+        &[
+            ("/r[a[b/c]/@k=x/@k]", true),
+            ("/r[a[b[not(c)]]/@k=x/@k]", false),
+            ("/r[a[b[not(c)]]/@k!=x/@k]", true),
+            ("/r[a//b[c]/@k=x/@k]", true),
+            ("/r[a[d]//b[c]/@k!=x/@k]", true),
+            ("/r[a[d]//b[c]/@k!=a[d]/@k]", false),
+            ("/r[a[not(d)]//b[c[d]]/@k=x/@k]", true),
+            // On each step its own.
+            ("/r[a[a]/b[c]/@k=x/@k]", false),
+            ("/r[a[d]/b[c]/@k=x/@k]", true),
+            ("/r[a[b[c]][d]/@k=x/@k]", true),
+            ("/r[a[b[c]][a]/@k=x/@k]", false),
+            // From the document.
+            ("/r[//a[b[c[d]]]/@k=x/@k]", true),
+            ("/r[x[not(//a[b[c[x]]])]/@k=a[b]/@k]", true),
+            ("/r[x[//a[b[c[d]]] and @k='1']/@k=a[d]/@k]", true),
+            // Beside a local name.
+            ("/r[local-name()=*[b[c]]/@k]", false),
+            ("/r[local-name()!=*[b[c]]/@k]", true),
+            // With comparisons within.
+            ("/r[a[b/@k=@k]/@k!=a[b/c]/@k]", true),
+            ("/r[a[b/@k!=@k]/@k!=a[b/c]/@k]", false),
+            ("//a[b[c]/@k=a[b[c]]/@k]", false),
+            ("//a[b/@k!=a[b[c]]/@k]", true),
         ],
     );
 }
