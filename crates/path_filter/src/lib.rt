@@ -6,12 +6,13 @@
 #![tactic(auto)]
 
 mod alike;
+mod compare;
 mod context;
 mod copy;
 mod cursor;
-mod evaluate;
 mod filter;
 mod filter_set;
+mod first;
 mod found;
 pub mod laws;
 mod lay_out;
@@ -22,7 +23,9 @@ mod passes;
 mod pieces;
 mod plan;
 mod positions;
+mod search;
 mod set_fault;
+mod steps;
 mod text;
 mod visit;
 mod wanted;

@@ -9,10 +9,11 @@ ghost use Rattle.path_filter.specs.Plan.{Arrives, Asks, CheckAsks, CheckHolds, C
 ghost use Rattle.path_filter.specs.Positions.{Has};
 ghost use Rattle.path_filter.specs.Wanted.{text_found};
 
+use crate::compare::{are_related, compares, differs};
 use crate::context::Context;
-use crate::evaluate::{are_related, compares, differs, meets};
 use crate::plan::{Check, Next, Sought, Stage};
 use crate::positions::Positions;
+use crate::steps::meets;
 use crate::wanted::Found;
 use filter_text::{Axis, Comparison, Part};
 use voe_tree::{Element, Node};

@@ -26,7 +26,7 @@ use Rattle.path_filter.proofs.Ranks.{falls-size, falls-within, falls-work, falls
 use Rattle.path_filter.proofs.SearchLaws.{one-at}
 use Rattle.path_filter.proofs.Texts.{of_document}
 use Rattle.path_filter.proofs.Views.{path-out}
-use Rattle.path_filter.proofs.+evaluate.Goals.{evaluate::advance-then-has+then-goes, evaluate::advance-then-stays, evaluate::advance-else-stays, evaluate::advance-then-has+else-goes, evaluate::advance-else-has, evaluate::own_attribute-else-meets-via-then-meets+else-suits, evaluate::own_attribute-else-meets-via-else-meets, evaluate::own_attributes-else-has-via-then-has+else-own_attribute, evaluate::own_attributes-else-has-via-else-has, evaluate::search-else-has-via-then-has+else-suits, evaluate::search-else-has-via-else-has, evaluate::search-in-Element+else-search, evaluate::search-in-Text, evaluate::first_from-in-Element+in_default-first_from, evaluate::first_from-in-Text, evaluate::all_like_from-in-Element+in_ok-last-in-Element, evaluate::all_like_from-in-Text, found::found_from-in-Element+else-is_done, found::found_from-in-Text}
+use Rattle.path_filter.proofs.+evaluate.Goals.{search::advance-then-has+then-goes, search::advance-then-stays, search::advance-else-stays, search::advance-then-has+else-goes, search::advance-else-has, search::own_attribute-else-meets-via-then-meets+else-suits, search::own_attribute-else-meets-via-else-meets, search::own_attributes-else-has-via-then-has+else-own_attribute, search::own_attributes-else-has-via-else-has, search::search-else-has-via-then-has+else-suits, search::search-else-has-via-else-has, search::search-in-Element+else-search, search::search-in-Text, first::first_from-in-Element+in_default-first_from, first::first_from-in-Text, alike::all_like_from-in-Element+in_ok-last-in-Element, alike::all_like_from-in-Text, found::found_from-in-Element+else-is_done, found::found_from-in-Text}
 use Rattle.path_filter.proofs.+evaluate.Goals as goal
 
 pub visit::check_holds-returns-in-Differs : goal.visit::check_holds-returns-in-Differs
@@ -62,35 +62,35 @@ found::found_from-visit_child-requires t c =
       (c.requires.shallow, (omega (arith, deeper, inside), (c.requires.made, (c.requires.small, (c.requires.few, c.requires.knows))))),
     )
 
-pub evaluate::admits-ask_check-requires : goal.evaluate::admits-ask_check-requires
-evaluate::admits-ask_check-requires t c =
+pub search::admits-ask_check-requires : goal.search::admits-ask_check-requires
+search::admits-ask_check-requires t c =
     let plan = c.args.context.now.plan.now in
     record { small = refers_small (newest plan) (check_of c.args.guard.now) (omega (arith, c.requires.ready.few, newest_length plan [])) c.requires.refers }
 
-pub evaluate::admits-found_from-here-requires : goal.evaluate::admits-found_from-here-requires
-evaluate::admits-found_from-here-requires t c =
+pub search::admits-found_from-here-requires : goal.search::admits-found_from-here-requires
+search::admits-found_from-here-requires t c =
     let plan = c.args.context.now.plan.now in
     let ready = c.requires.ready in (
       omega (arith, c.decreases, falls-size (weight plan) (weight plan + (size_of_check (check_of c.args.guard.now) + 1)) (2 * depth c.args.at.now) 0 c.args.context.now.root.now (omega arith) (omega (arith, c.requires.inside))),
       (ready.shallow, (c.requires.inside, (ready.made, (made_small plan ready.few ready.made, (ready.few, λ j small of_document. ready.knows j of_document))))),
     )
 
-pub evaluate::admits-check_holds-requires : goal.evaluate::admits-check_holds-requires
-evaluate::admits-check_holds-requires t c =
+pub search::admits-check_holds-requires : goal.search::admits-check_holds-requires
+search::admits-check_holds-requires t c =
     let plan = c.args.context.now.plan.now in
     let size = size_of_check (check_of c.args.guard.now) in (
       omega (arith, c.decreases, falls-work c.args.context.now size (size + 1) 0 0 (omega arith) (omega arith)),
       (c.requires.ready, (c.requires.inside, (refers_small (newest plan) (check_of c.args.guard.now) (omega (arith, c.requires.ready.few, newest_length plan [])) c.requires.refers, c.requires.refers))),
     )
 
-pub evaluate::admits-returns : goal.evaluate::admits-returns
-evaluate::admits-returns t c =
+pub search::admits-returns : goal.search::admits-returns
+search::admits-returns t c =
     let same = guard_holds c.args.context.now.plan.now (Has c.ask_check.new.asked) (Has c.found_from-here.result) (Has c.args.context.now.known.now) c.args.context.now.root.now c.args.at.now (check_of c.args.guard.now)
     c.requires.refers c.ask_check.ensures.asks c.found_from-here.ensures c.requires.ready.knows in
     ((λ h. same.0 (c.check_holds.ensures.0 h)), (λ h. c.check_holds.ensures.1 (same.1 h)))
 
-pub evaluate::goes-returns-else-is_empty : goal.evaluate::goes-returns-else-is_empty
-evaluate::goes-returns-else-is_empty t c =
+pub search::goes-returns-else-is_empty : goal.search::goes-returns-else-is_empty
+search::goes-returns-else-is_empty t c =
     let x = c.args.step.now in
     let root = c.args.context.now.root.now in
     let stands = c.requires.stands root c.args.at.now in
@@ -99,14 +99,14 @@ evaluate::goes-returns-else-is_empty t c =
       (λ goes. c.admits.ensures.1 (stands.1 (goes_in x rest root c.args.at.now goes).2)),
     )
 
-pub evaluate::advance-bounds-guards-i : goal.evaluate::advance-bounds-guards-i
-evaluate::advance-bounds-guards-i t c = omega (arith, guards_length (newest c.args.context.now.plan.now) c.args.steps.now c.args.guards.now c.requires.guarded, c.loop-i-test.true)
+pub search::advance-bounds-guards-i : goal.search::advance-bounds-guards-i
+search::advance-bounds-guards-i t c = omega (arith, guards_length (newest c.args.context.now.plan.now) c.args.steps.now c.args.guards.now c.requires.guarded, c.loop-i-test.true)
 
-pub evaluate::advance-offset_bounds-guards-i : goal.evaluate::advance-offset_bounds-guards-i
-evaluate::advance-offset_bounds-guards-i t c = omega (arith, fewer c.args.steps.now, c.requires.small, c.loop-i-test.true)
+pub search::advance-offset_bounds-guards-i : goal.search::advance-offset_bounds-guards-i
+search::advance-offset_bounds-guards-i t c = omega (arith, fewer c.args.steps.now, c.requires.small, c.loop-i-test.true)
 
-pub evaluate::advance-goes-requires : goal.evaluate::advance-goes-requires
-evaluate::advance-goes-requires t c =
+pub search::advance-goes-requires : goal.search::advance-goes-requires
+search::advance-goes-requires t c =
     let plan = newest c.args.context.now.plan.now in
     let steps = c.args.steps.now in
     let guards = c.args.guards.now in
@@ -117,8 +117,8 @@ evaluate::advance-goes-requires t c =
     let g = guard_at plan steps guards i c.index-steps-i.result guard c.requires.guarded at there in
     (omega (arith, c.decreases, falls-work c.args.context.now (size_of_check (check_of guard) + 1) (size_of_guards guards) 1 0 g.smaller (omega arith)), (c.requires.ready, (c.requires.inside, (g.refers, g.stands))))
 
-pub evaluate::first_from-advance-next-requires : goal.evaluate::first_from-advance-next-requires
-evaluate::first_from-advance-next-requires t c =
+pub first::first_from-advance-next-requires : goal.first::first_from-advance-next-requires
+first::first_from-advance-next-requires t c =
     let at = read c.as_slice-child-items.result.now c.loop-child.child-index c.child-item.result c.loop-child-test.true c.child-item.is ∙ ap Some c.in-Element.is in
     let deeper = child_depth c.args.at.now c.in-Element.inner c.loop-child.child-index (subst (λ ns. slice_get ns c.loop-child.child-index ≡ Some (tree.Element c.in-Element.inner)) c.as_slice-child-items.ensures at) in
     let inside = c.requires.inside in
@@ -127,8 +127,8 @@ evaluate::first_from-advance-next-requires t c =
       (c.requires.ready, (omega (arith, deeper, inside), (c.requires.guarded, c.requires.small))),
     )
 
-pub evaluate::first_from-first_from-requires : goal.evaluate::first_from-first_from-requires
-evaluate::first_from-first_from-requires t c =
+pub first::first_from-first_from-requires : goal.first::first_from-first_from-requires
+first::first_from-first_from-requires t c =
     let at = read c.as_slice-child-items.result.now c.loop-child.child-index c.child-item.result c.loop-child-test.true c.child-item.is ∙ ap Some c.in-Element.is in
     let deeper = child_depth c.args.at.now c.in-Element.inner c.loop-child.child-index (subst (λ ns. slice_get ns c.loop-child.child-index ≡ Some (tree.Element c.in-Element.inner)) c.as_slice-child-items.ensures at) in
     let inside = c.requires.inside in
@@ -137,8 +137,8 @@ evaluate::first_from-first_from-requires t c =
       (c.requires.ready, (omega (arith, deeper, inside), (c.requires.guarded, c.requires.small))),
     )
 
-pub evaluate::search-advance-next-requires : goal.evaluate::search-advance-next-requires
-evaluate::search-advance-next-requires t c =
+pub search::search-advance-next-requires : goal.search::search-advance-next-requires
+search::search-advance-next-requires t c =
     let at = read c.as_slice-child-items.result.now c.loop-child.child-index c.child-item.result c.loop-child-test.true c.child-item.is ∙ ap Some c.in-Element.is in
     let deeper = child_depth c.args.at.now c.in-Element.inner c.loop-child.child-index (subst (λ ns. slice_get ns c.loop-child.child-index ≡ Some (tree.Element c.in-Element.inner)) c.as_slice-child-items.ensures at) in
     let inside = c.requires.inside in
@@ -147,8 +147,8 @@ evaluate::search-advance-next-requires t c =
       (c.requires.ready, (omega (arith, deeper, inside), (c.requires.guarded, c.requires.small))),
     )
 
-pub evaluate::search-search-requires : goal.evaluate::search-search-requires
-evaluate::search-search-requires t c =
+pub search::search-search-requires : goal.search::search-search-requires
+search::search-search-requires t c =
     let at = read c.as_slice-child-items.result.now c.loop-child.child-index c.child-item.result c.loop-child-test.true c.child-item.is ∙ ap Some c.in-Element.is in
     let deeper = child_depth c.args.at.now c.in-Element.inner c.loop-child.child-index (subst (λ ns. slice_get ns c.loop-child.child-index ≡ Some (tree.Element c.in-Element.inner)) c.as_slice-child-items.ensures at) in
     let inside = c.requires.inside in
@@ -157,48 +157,48 @@ evaluate::search-search-requires t c =
       (c.requires.ready, (omega (arith, deeper, inside), (c.requires.guarded, (c.requires.small, c.requires.sound)))),
     )
 
-pub evaluate::advance-has-requires : goal.evaluate::advance-has-requires
-evaluate::advance-has-requires t c = omega (arith, fewer c.args.steps.now, c.requires.small, c.loop-i-test.true)
+pub search::advance-has-requires : goal.search::advance-has-requires
+search::advance-has-requires t c = omega (arith, fewer c.args.steps.now, c.requires.small, c.loop-i-test.true)
 
-pub evaluate::advance-add-requires : goal.evaluate::advance-add-requires
-evaluate::advance-add-requires t c = omega (arith, fewer c.args.steps.now, c.requires.small, c.loop-i-test.true)
+pub search::advance-add-requires : goal.search::advance-add-requires
+search::advance-add-requires t c = omega (arith, fewer c.args.steps.now, c.requires.small, c.loop-i-test.true)
 
-pub evaluate::advance-add-requires-then-goes : goal.evaluate::advance-add-requires-then-goes
-evaluate::advance-add-requires-then-goes t c = omega (arith, fewer c.args.steps.now, c.requires.small, c.loop-i-test.true)
+pub search::advance-add-requires-then-goes : goal.search::advance-add-requires-then-goes
+search::advance-add-requires-then-goes t c = omega (arith, fewer c.args.steps.now, c.requires.small, c.loop-i-test.true)
 
-pub evaluate::advance-loop-i-preserved : goal.evaluate::advance-loop-i-preserved
-evaluate::advance-loop-i-preserved t c =
+pub search::advance-loop-i-preserved : goal.search::advance-loop-i-preserved
+search::advance-loop-i-preserved t c =
     let at = read c.args.steps.now c.loop-i.i c.index-steps-i.result c.loop-i-test.true c.index-steps-i.is in
     let here = after-at c.args.steps.now c.loop-i.i c.index-steps-i.result at in
     let rest = after (suc c.loop-i.i) (steps_of c.args.steps.now) in
     elim c.if-has.branch [
-      | evaluate::advance-then-has+then-goes w ↦
+      | search::advance-then-has+then-goes w ↦
           advanced c.args.steps.now (Has c.args.reached.now) (Has c.loop-i.next) (Has w.if-stays.next) (Has c.if-has.next) c.args.context.now.root.now c.args.at.now c.loop-i.i (c.has.ensures.0 w.if-has.true) c.loop-i.invariant
           (elim w.if-stays.branch [
-            | evaluate::advance-then-stays v ↦ subst (λ p. (j : ℕ) → Has p j ↔ (Has c.loop-i.next j ⊎ ((j ≡ c.loop-i.i) × Stays (after c.loop-i.i (steps_of c.args.steps.now))))) (sym v.next-is)
+            | search::advance-then-stays v ↦ subst (λ p. (j : ℕ) → Has p j ↔ (Has c.loop-i.next j ⊎ ((j ≡ c.loop-i.i) × Stays (after c.loop-i.i (steps_of c.args.steps.now))))) (sym v.next-is)
                 (added (Has c.loop-i.next) _ c.loop-i.i (Stays (after c.loop-i.i (steps_of c.args.steps.now))) v.add.ensures (subst Stays (sym here) ((w.stays.ensures rest).0 v.if-stays.true)))
-            | evaluate::advance-else-stays v ↦ subst (λ p. (j : ℕ) → Has p j ↔ (Has c.loop-i.next j ⊎ ((j ≡ c.loop-i.i) × Stays (after c.loop-i.i (steps_of c.args.steps.now))))) (sym v.next-is)
+            | search::advance-else-stays v ↦ subst (λ p. (j : ℕ) → Has p j ↔ (Has c.loop-i.next j ⊎ ((j ≡ c.loop-i.i) × Stays (after c.loop-i.i (steps_of c.args.steps.now))))) (sym v.next-is)
                 (not_added (Has c.loop-i.next) c.loop-i.i (Stays (after c.loop-i.i (steps_of c.args.steps.now))) (λ s. contra _ ((w.stays.ensures rest).1 (subst Stays here s)) v.if-stays.false))
           ])
           (subst (λ p. (j : ℕ) → Has p j ↔ (Has w.if-stays.next j ⊎ ((j ≡ c.loop-i.i + 1) × Goes (after c.loop-i.i (steps_of c.args.steps.now)) c.args.context.now.root.now c.args.at.now))) (sym w.next-is)
           (added (Has w.if-stays.next) _ (c.loop-i.i + 1) (Goes (after c.loop-i.i (steps_of c.args.steps.now)) c.args.context.now.root.now c.args.at.now) w.add-then-goes.ensures (subst (λ s. Goes s c.args.context.now.root.now c.args.at.now) (sym here) ((w.goes.ensures rest).0 w.if-goes.true))))
-      | evaluate::advance-then-has+else-goes w ↦
+      | search::advance-then-has+else-goes w ↦
           advanced c.args.steps.now (Has c.args.reached.now) (Has c.loop-i.next) (Has w.if-stays.next) (Has c.if-has.next) c.args.context.now.root.now c.args.at.now c.loop-i.i (c.has.ensures.0 w.if-has.true) c.loop-i.invariant
           (elim w.if-stays.branch [
-            | evaluate::advance-then-stays v ↦ subst (λ p. (j : ℕ) → Has p j ↔ (Has c.loop-i.next j ⊎ ((j ≡ c.loop-i.i) × Stays (after c.loop-i.i (steps_of c.args.steps.now))))) (sym v.next-is)
+            | search::advance-then-stays v ↦ subst (λ p. (j : ℕ) → Has p j ↔ (Has c.loop-i.next j ⊎ ((j ≡ c.loop-i.i) × Stays (after c.loop-i.i (steps_of c.args.steps.now))))) (sym v.next-is)
                 (added (Has c.loop-i.next) _ c.loop-i.i (Stays (after c.loop-i.i (steps_of c.args.steps.now))) v.add.ensures (subst Stays (sym here) ((w.stays.ensures rest).0 v.if-stays.true)))
-            | evaluate::advance-else-stays v ↦ subst (λ p. (j : ℕ) → Has p j ↔ (Has c.loop-i.next j ⊎ ((j ≡ c.loop-i.i) × Stays (after c.loop-i.i (steps_of c.args.steps.now))))) (sym v.next-is)
+            | search::advance-else-stays v ↦ subst (λ p. (j : ℕ) → Has p j ↔ (Has c.loop-i.next j ⊎ ((j ≡ c.loop-i.i) × Stays (after c.loop-i.i (steps_of c.args.steps.now))))) (sym v.next-is)
                 (not_added (Has c.loop-i.next) c.loop-i.i (Stays (after c.loop-i.i (steps_of c.args.steps.now))) (λ s. contra _ ((w.stays.ensures rest).1 (subst Stays here s)) v.if-stays.false))
           ])
           (subst (λ p. (j : ℕ) → Has p j ↔ (Has w.if-stays.next j ⊎ ((j ≡ c.loop-i.i + 1) × Goes (after c.loop-i.i (steps_of c.args.steps.now)) c.args.context.now.root.now c.args.at.now))) (sym w.next-is)
           (not_added (Has w.if-stays.next) (c.loop-i.i + 1) (Goes (after c.loop-i.i (steps_of c.args.steps.now)) c.args.context.now.root.now c.args.at.now) (λ g. contra _ ((w.goes.ensures rest).1 (subst (λ s. Goes s c.args.context.now.root.now c.args.at.now) here g)) w.if-goes.false)))
-      | evaluate::advance-else-has w ↦
+      | search::advance-else-has w ↦
           subst (λ p. (j : ℕ) → Has p j ↔ NextBelow (c.loop-i.i + 1) c.args.steps.now (Has c.args.reached.now) c.args.context.now.root.now c.args.at.now j) (sym w.next-is)
           (skipped c.args.steps.now (Has c.args.reached.now) (Has c.loop-i.next) c.args.context.now.root.now c.args.at.now c.loop-i.i (λ r. contra _ (c.has.ensures.1 r) w.if-has.false) c.loop-i.invariant)
     ]
 
-pub evaluate::finds-returns : goal.evaluate::finds-returns
-evaluate::finds-returns t c =
+pub search::finds-returns : goal.search::finds-returns
+search::finds-returns t c =
     let steps_are = c.as_slice-steps.ensures in
     let opened : path_of c.args.path.now ≡ path true (steps_of c.as_slice-steps.result.now) =
     path-out c.args.path.now ∙ ap (λ b. path b (steps_of (out-Path c.args.path.now).steps)) c.if-not-path.false ∙ ap (λ ss. path true (steps_of ss)) (sym steps_are) in
@@ -212,35 +212,35 @@ evaluate::finds-returns t c =
           (subst (λ p. PathFindsWanted p c.args.context.now.root.now c.args.at.now c.args.wanted.now) opened found)))),
     )
 
-pub evaluate::own_attribute-loop-attribute-init : goal.evaluate::own_attribute-loop-attribute-init
-evaluate::own_attribute-loop-attribute-init t c = λ rest found. subst (OneOf _) (sym c.as_slice-attribute-items.ensures) (own-in c.args.step.now rest c.args.context.now.root.now c.args.at.now c.args.wanted.now found).1
+pub search::own_attribute-loop-attribute-init : goal.search::own_attribute-loop-attribute-init
+search::own_attribute-loop-attribute-init t c = λ rest found. subst (OneOf _) (sym c.as_slice-attribute-items.ensures) (own-in c.args.step.now rest c.args.context.now.root.now c.args.at.now c.args.wanted.now found).1
 
-pub evaluate::own_attribute-returns-then-suits : goal.evaluate::own_attribute-returns-then-suits
-evaluate::own_attribute-returns-then-suits t c =
+pub search::own_attribute-returns-then-suits : goal.search::own_attribute-returns-then-suits
+search::own_attribute-returns-then-suits t c =
     let at = read c.as_slice-attribute-items.result.now c.loop-attribute.attribute-index c.attribute-item.result c.loop-attribute-test.true c.attribute-item.is in
     let meets = meets-as (test_of c.args.step.now.test) _ _ _ _ c.as_str.ensures c.as_str-in-loop-attribute.ensures (c.meets.ensures.0 c.if-meets.true) in
     let suits = subst (Suits c.args.wanted.now c.args.context.now.root.now) c.as_str-then-meets.ensures (c.suits.ensures.0 c.if-suits.true) in
     let one : Attributes c.args.step.now c.args.context.now.root.now c.args.at.now c.args.wanted.now = subst (OneOf _) c.as_slice-attribute-items.ensures (one-at _ _ _ _ at (meets, suits)) in
     λ rest. ((λ _. own-out c.args.step.now rest c.args.context.now.root.now c.args.at.now c.args.wanted.now (c.names_attributes.ensures.0 c.if-not-names_attributes.false) one), (λ _. refl))
 
-pub evaluate::own_attribute-loop-attribute-preserved : goal.evaluate::own_attribute-loop-attribute-preserved
-evaluate::own_attribute-loop-attribute-preserved t c =
+pub search::own_attribute-loop-attribute-preserved : goal.search::own_attribute-loop-attribute-preserved
+search::own_attribute-loop-attribute-preserved t c =
     let at = read c.as_slice-attribute-items.result.now c.loop-attribute.attribute-index c.attribute-item.result c.loop-attribute-test.true c.attribute-item.is in
     λ rest found. one-next _ _ c.loop-attribute.attribute-index c.attribute-item.result at
     (λ p. elim c.else-meets.branch [
-      | evaluate::own_attribute-else-meets-via-then-meets+else-suits w ↦ contra _ (w.suits.ensures.1 (subst (Suits c.args.wanted.now c.args.context.now.root.now) (sym w.as_str-then-meets.ensures) p.1)) w.if-suits.false
-      | evaluate::own_attribute-else-meets-via-else-meets w ↦ contra _ (c.meets.ensures.1 (meets-as (test_of c.args.step.now.test) _ _ _ _ (sym c.as_str.ensures) (sym c.as_str-in-loop-attribute.ensures) p.0)) w.if-meets.false
+      | search::own_attribute-else-meets-via-then-meets+else-suits w ↦ contra _ (w.suits.ensures.1 (subst (Suits c.args.wanted.now c.args.context.now.root.now) (sym w.as_str-then-meets.ensures) p.1)) w.if-suits.false
+      | search::own_attribute-else-meets-via-else-meets w ↦ contra _ (c.meets.ensures.1 (meets-as (test_of c.args.step.now.test) _ _ _ _ (sym c.as_str.ensures) (sym c.as_str-in-loop-attribute.ensures) p.0)) w.if-meets.false
     ])
     (c.loop-attribute.invariant rest found)
 
-pub evaluate::own_attribute-returns : goal.evaluate::own_attribute-returns
-evaluate::own_attribute-returns t c = λ rest. ((λ claim. absurd (contra _ claim refl)), (λ found. absurd (one-past _ c.as_slice-attribute-items.result.now c.loop-attribute.attribute-index (omega (arith, c.loop-attribute-test.false)) (c.loop-attribute.invariant rest found))))
+pub search::own_attribute-returns : goal.search::own_attribute-returns
+search::own_attribute-returns t c = λ rest. ((λ claim. absurd (contra _ claim refl)), (λ found. absurd (one-past _ c.as_slice-attribute-items.result.now c.loop-attribute.attribute-index (omega (arith, c.loop-attribute-test.false)) (c.loop-attribute.invariant rest found))))
 
-pub evaluate::own_attributes-has-requires : goal.evaluate::own_attributes-has-requires
-evaluate::own_attributes-has-requires t c = omega (arith, fewer c.args.steps.now, c.requires.small, c.loop-i-test.true)
+pub search::own_attributes-has-requires : goal.search::own_attributes-has-requires
+search::own_attributes-has-requires t c = omega (arith, fewer c.args.steps.now, c.requires.small, c.loop-i-test.true)
 
-pub evaluate::own_attributes-returns-then-own_attribute : goal.evaluate::own_attributes-returns-then-own_attribute
-evaluate::own_attributes-returns-then-own_attribute t c =
+pub search::own_attributes-returns-then-own_attribute : goal.search::own_attributes-returns-then-own_attribute
+search::own_attributes-returns-then-own_attribute t c =
     let at = read c.args.steps.now c.loop-i.i c.index-steps-i.result c.loop-i-test.true c.index-steps-i.is in (
       (λ _. (
         c.loop-i.i,
@@ -251,34 +251,34 @@ evaluate::own_attributes-returns-then-own_attribute t c =
       (λ _. refl),
     )
 
-pub evaluate::own_attributes-loop-i-preserved : goal.evaluate::own_attributes-loop-i-preserved
-evaluate::own_attributes-loop-i-preserved t c =
+pub search::own_attributes-loop-i-preserved : goal.search::own_attributes-loop-i-preserved
+search::own_attributes-loop-i-preserved t c =
     let at = read c.args.steps.now c.loop-i.i c.index-steps-i.result c.loop-i-test.true c.index-steps-i.is in
     λ k reached lt own. elim (below-more k c.loop-i.i lt) [
       | inl same ↦ (elim c.else-has.branch [
-        | evaluate::own_attributes-else-has-via-then-has+else-own_attribute w ↦
+        | search::own_attributes-else-has-via-then-has+else-own_attribute w ↦
             contra _ ((w.own_attribute.ensures (after (suc c.loop-i.i) (steps_of c.args.steps.now))).1
             (subst (λ s. OwnAttribute s c.args.context.now.root.now c.args.at.now c.args.wanted.now) (ap (λ n. after n (steps_of c.args.steps.now)) same ∙ after-at c.args.steps.now c.loop-i.i c.index-steps-i.result at) own)) w.if-own_attribute.false
-        | evaluate::own_attributes-else-has-via-else-has w ↦ contra _ (c.has.ensures.1 (subst (Has c.args.reached.now) same reached)) w.if-has.false
+        | search::own_attributes-else-has-via-else-has w ↦ contra _ (c.has.ensures.1 (subst (Has c.args.reached.now) same reached)) w.if-has.false
       ])
       | inr less ↦ c.loop-i.invariant k reached less own
     ]
 
-pub evaluate::search-has-requires : goal.evaluate::search-has-requires
-evaluate::search-has-requires t c = omega (arith, fewer c.args.steps.now, c.requires.small)
+pub search::search-has-requires : goal.search::search-has-requires
+search::search-has-requires t c = omega (arith, fewer c.args.steps.now, c.requires.small)
 
-pub evaluate::search-returns-then-suits : goal.evaluate::search-returns-then-suits
-evaluate::search-returns-then-suits t c = ((λ _. search-here c.args.steps.now (Has c.args.reached.now) c.args.context.now.root.now c.args.at.now c.args.wanted.now (c.has.ensures.0 c.if-has.true) (c.suits.ensures.0 c.if-suits.true)), (λ _. refl))
+pub search::search-returns-then-suits : goal.search::search-returns-then-suits
+search::search-returns-then-suits t c = ((λ _. search-here c.args.steps.now (Has c.args.reached.now) c.args.context.now.root.now c.args.at.now c.args.wanted.now (c.has.ensures.0 c.if-has.true) (c.suits.ensures.0 c.if-suits.true)), (λ _. refl))
 
-pub evaluate::search-returns-then-own_attributes : goal.evaluate::search-returns-then-own_attributes
-evaluate::search-returns-then-own_attributes t c = ((λ _. search-own c.args.steps.now (Has c.args.reached.now) c.args.context.now.root.now c.args.at.now c.args.wanted.now (c.own_attributes.ensures.0 c.if-own_attributes.true)), (λ _. refl))
+pub search::search-returns-then-own_attributes : goal.search::search-returns-then-own_attributes
+search::search-returns-then-own_attributes t c = ((λ _. search-own c.args.steps.now (Has c.args.reached.now) c.args.context.now.root.now c.args.at.now c.args.wanted.now (c.own_attributes.ensures.0 c.if-own_attributes.true)), (λ _. refl))
 
-pub evaluate::search-loop-child-init : goal.evaluate::search-loop-child-init
-evaluate::search-loop-child-init t c =
+pub search::search-loop-child-init : goal.search::search-loop-child-init
+search::search-loop-child-init t c =
     λ found. elim (search-in c.args.steps.now (Has c.args.reached.now) c.args.context.now.root.now c.args.at.now c.args.wanted.now found) [
       | inl here ↦ absurd (elim c.else-has.branch [
-        | evaluate::search-else-has-via-then-has+else-suits w ↦ contra _ (w.suits.ensures.1 here.1) w.if-suits.false
-        | evaluate::search-else-has-via-else-has w ↦ contra _ (c.has.ensures.1 here.0) w.if-has.false
+        | search::search-else-has-via-then-has+else-suits w ↦ contra _ (w.suits.ensures.1 here.1) w.if-suits.false
+        | search::search-else-has-via-else-has w ↦ contra _ (c.has.ensures.1 here.0) w.if-has.false
       ])
       | inr rest ↦ (elim rest [
         | inl own ↦ absurd (contra _ (c.own_attributes.ensures.1 own) c.if-own_attributes.false)
@@ -286,8 +286,8 @@ evaluate::search-loop-child-init t c =
       ])
     ]
 
-pub evaluate::search-returns-then-search : goal.evaluate::search-returns-then-search
-evaluate::search-returns-then-search t c =
+pub search::search-returns-then-search : goal.search::search-returns-then-search
+search::search-returns-then-search t c =
     let at = read c.as_slice-child-items.result.now c.loop-child.child-index c.child-item.result c.loop-child-test.true c.child-item.is ∙ ap Some c.in-Element.is in
     let found = search-same c.args.steps.now (Has c.advance-next.result) (Next c.args.steps.now (Has c.args.reached.now) c.args.context.now.root.now c.in-Element.inner) c.args.context.now.root.now c.in-Element.inner c.args.wanted.now (λ j. (c.advance-next.ensures j).0) (c.search.ensures.0 c.if-search.true) in (
       (λ _. search-children c.args.steps.now (Has c.args.reached.now) c.args.context.now.root.now c.args.at.now c.args.wanted.now
@@ -295,18 +295,18 @@ evaluate::search-returns-then-search t c =
       (λ _. refl),
     )
 
-pub evaluate::search-loop-child-preserved : goal.evaluate::search-loop-child-preserved
-evaluate::search-loop-child-preserved t c =
+pub search::search-loop-child-preserved : goal.search::search-loop-child-preserved
+search::search-loop-child-preserved t c =
     let item = read c.as_slice-child-items.result.now c.loop-child.child-index c.child-item.result c.loop-child-test.true c.child-item.is in
     λ found. elim c.match-child.branch [
-      | evaluate::search-in-Element+else-search w ↦ element-next _ _ c.loop-child.child-index w.in-Element.inner (item ∙ ap Some w.in-Element.is)
+      | search::search-in-Element+else-search w ↦ element-next _ _ c.loop-child.child-index w.in-Element.inner (item ∙ ap Some w.in-Element.is)
           (λ p. contra _ (w.search.ensures.1 (search-same c.args.steps.now (Next c.args.steps.now (Has c.args.reached.now) c.args.context.now.root.now w.in-Element.inner) (Has w.advance-next.result) c.args.context.now.root.now w.in-Element.inner c.args.wanted.now (λ j. (w.advance-next.ensures j).1) p)) w.if-search.false)
           (c.loop-child.invariant found)
-      | evaluate::search-in-Text w ↦ text-next _ _ c.loop-child.child-index _ (item ∙ ap Some w.in-Text.is) (c.loop-child.invariant found)
+      | search::search-in-Text w ↦ text-next _ _ c.loop-child.child-index _ (item ∙ ap Some w.in-Text.is) (c.loop-child.invariant found)
     ]
 
-pub evaluate::first-returns-clause-some : goal.evaluate::first-returns-clause-some
-evaluate::first-returns-clause-some t c =
+pub first::first-returns-clause-some : goal.first::first-returns-clause-some
+first::first-returns-clause-some t c =
     let steps = c.as_slice-steps.result.now in
     let root = c.args.context.now.root.now in
     let opened : path_of c.args.path.now ≡ path true (steps_of steps) =
@@ -320,8 +320,8 @@ evaluate::first-returns-clause-some t c =
     ))
     c.first_from-2.ensures.some
 
-pub evaluate::first-returns-clause-none : goal.evaluate::first-returns-clause-none
-evaluate::first-returns-clause-none t c =
+pub first::first-returns-clause-none : goal.first::first-returns-clause-none
+first::first-returns-clause-none t c =
     let steps = c.as_slice-steps.result.now in
     let root = c.args.context.now.root.now in
     let opened : path_of c.args.path.now ≡ path true (steps_of steps) =
@@ -333,23 +333,23 @@ evaluate::first-returns-clause-none t c =
     (document-in steps (Has c.only-start.result) root anything (λ i. (c.only-start.ensures i).1) some (subst (λ p. PathFindsWanted p root c.args.at.now anything) opened found))))
     c.first_from-2.ensures.none
 
-pub evaluate::first_from-has-requires : goal.evaluate::first_from-has-requires
-evaluate::first_from-has-requires t c = omega (arith, fewer c.args.steps.now, c.requires.small)
+pub first::first_from-has-requires : goal.first::first_from-has-requires
+first::first_from-has-requires t c = omega (arith, fewer c.args.steps.now, c.requires.small)
 
-pub evaluate::first_from-returns-then-has-clause-some : goal.evaluate::first_from-returns-then-has-clause-some
-evaluate::first_from-returns-then-has-clause-some t c = (
+pub first::first_from-returns-then-has-clause-some : goal.first::first_from-returns-then-has-clause-some
+first::first_from-returns-then-has-clause-some t c = (
   omega (arith, c.requires.ready.shallow, c.requires.inside),
   search-here c.args.steps.now (Has c.args.reached.now) c.args.context.now.root.now c.args.at.now (exactly (places.Element c.args.at)) (c.has.ensures.0 c.if-has.true) refl,
 )
 
-pub evaluate::first_from-returns-in-Some-clause-some : goal.evaluate::first_from-returns-in-Some-clause-some
-evaluate::first_from-returns-in-Some-clause-some t c = (
+pub first::first_from-returns-in-Some-clause-some : goal.first::first_from-returns-in-Some-clause-some
+first::first_from-returns-in-Some-clause-some t c = (
   c.in-Some.ensures.some.0,
   search-own c.args.steps.now (Has c.args.reached.now) c.args.context.now.root.now c.args.at.now (exactly c.in-Some.found) (c.in-Some.ensures.some.1 c.args.context.now.root.now),
 )
 
-pub evaluate::first_from-loop-child-init : goal.evaluate::first_from-loop-child-init
-evaluate::first_from-loop-child-init t c =
+pub first::first_from-loop-child-init : goal.first::first_from-loop-child-init
+first::first_from-loop-child-init t c =
     λ found. elim (search-in c.args.steps.now (Has c.args.reached.now) c.args.context.now.root.now c.args.at.now anything found) [
       | inl here ↦ absurd (contra _ (c.has.ensures.1 here.0) c.if-has.false)
       | inr rest ↦ (elim rest [
@@ -358,8 +358,8 @@ evaluate::first_from-loop-child-init t c =
       ])
     ]
 
-pub evaluate::first_from-returns-in-Some-first_from-clause-some : goal.evaluate::first_from-returns-in-Some-first_from-clause-some
-evaluate::first_from-returns-in-Some-first_from-clause-some t c =
+pub first::first_from-returns-in-Some-first_from-clause-some : goal.first::first_from-returns-in-Some-first_from-clause-some
+first::first_from-returns-in-Some-first_from-clause-some t c =
     let at = read c.as_slice-child-items.result.now c.loop-child.child-index c.child-item.result c.loop-child-test.true c.child-item.is ∙ ap Some c.in-Element.is in
     let w = exactly c.in-Some-first_from.found in
     let found = search-same c.args.steps.now (Has c.advance-next.result) (Next c.args.steps.now (Has c.args.reached.now) c.args.context.now.root.now c.in-Element.inner) c.args.context.now.root.now c.in-Element.inner w (λ j. (c.advance-next.ensures j).0) c.in-Some-first_from.ensures.some.1 in (
@@ -369,18 +369,18 @@ evaluate::first_from-returns-in-Some-first_from-clause-some t c =
           (element-one (λ x. SearchFinds c.args.steps.now (Next c.args.steps.now (Has c.args.reached.now) c.args.context.now.root.now x) c.args.context.now.root.now x w) _ c.loop-child.child-index c.in-Element.inner at found)),
     )
 
-pub evaluate::first_from-loop-child-preserved : goal.evaluate::first_from-loop-child-preserved
-evaluate::first_from-loop-child-preserved t c =
+pub first::first_from-loop-child-preserved : goal.first::first_from-loop-child-preserved
+first::first_from-loop-child-preserved t c =
     let item = read c.as_slice-child-items.result.now c.loop-child.child-index c.child-item.result c.loop-child-test.true c.child-item.is in
     λ found. elim c.match-child.branch [
-      | evaluate::first_from-in-Element+in_default-first_from w ↦ element-next _ _ c.loop-child.child-index w.in-Element.inner (item ∙ ap Some w.in-Element.is)
+      | first::first_from-in-Element+in_default-first_from w ↦ element-next _ _ c.loop-child.child-index w.in-Element.inner (item ∙ ap Some w.in-Element.is)
           (λ p. w.in_default-first_from.ensures.none (search-same c.args.steps.now (Next c.args.steps.now (Has c.args.reached.now) c.args.context.now.root.now w.in-Element.inner) (Has w.advance-next.result) c.args.context.now.root.now w.in-Element.inner anything (λ j. (w.advance-next.ensures j).1) p))
           (c.loop-child.invariant found)
-      | evaluate::first_from-in-Text w ↦ text-next _ _ c.loop-child.child-index _ (item ∙ ap Some w.in-Text.is) (c.loop-child.invariant found)
+      | first::first_from-in-Text w ↦ text-next _ _ c.loop-child.child-index _ (item ∙ ap Some w.in-Text.is) (c.loop-child.invariant found)
     ]
 
-pub evaluate::first_from-returns-clause-none : goal.evaluate::first_from-returns-clause-none
-evaluate::first_from-returns-clause-none t c =
+pub first::first_from-returns-clause-none : goal.first::first_from-returns-clause-none
+first::first_from-returns-clause-none t c =
     λ found. subst (λ ns. OneOf (λ x. SearchFinds c.args.steps.now (Next c.args.steps.now (Has c.args.reached.now) c.args.context.now.root.now x) c.args.context.now.root.now x anything) (elements_in ns))
     (past-end c.as_slice-child-items.result.now c.loop-child.child-index (omega (arith, c.loop-child-test.false))) (c.loop-child.invariant found)
 
@@ -459,13 +459,13 @@ passes::add_from_child-loop-i-preserved t c =
 pub passes::add_from_child-returns : goal.passes::add_from_child-returns
 passes::add_from_child-returns t c = all_marked c.args.plan.now (Has c.args.asked.now) (Has c.args.found.now) (Has c.loop-i.found) (FromChild (Has c.args.below.now) (Has c.args.known.now) c.args.root.now c.args.child.now) c.loop-i.i (omega (arith, c.loop-i-test.false)) c.loop-i.invariant
 
-pub evaluate::differ-returns-then-finds : goal.evaluate::differ-returns-then-finds
-evaluate::differ-returns-then-finds t c =
+pub compare::differ-returns-then-finds : goal.compare::differ-returns-then-finds
+compare::differ-returns-then-finds t c =
     others_decide (path_of c.args.path.now) (path_of c.args.other.now) c.args.context.now.root.now c.args.at.now c.in-Some.found c.in-Some-all_like.last c.all_like-then-finds.result c.is_none.result
     c.in-Some-all_like.ensures.some.0.1 (c.finds.ensures.0 c.if-finds.true) c.in-Some-all_like.ensures.some.1 c.all_like-then-finds.ensures.none c.all_like-then-finds.ensures.some c.is_none.ensures
 
-pub evaluate::all_like-returns-then-is_empty-clause-none : goal.evaluate::all_like-returns-then-is_empty-clause-none
-evaluate::all_like-returns-then-is_empty-clause-none t c =
+pub alike::all_like-returns-then-is_empty-clause-none : goal.alike::all_like-returns-then-is_empty-clause-none
+alike::all_like-returns-then-is_empty-clause-none t c =
     let steps = c.as_slice-steps.result.now in
     let opened : path_of c.args.path.now ≡ path true (steps_of steps) =
     path-out c.args.path.now ∙ ap (λ b. path b (steps_of (out-Path c.args.path.now).steps)) c.if-not-path.false ∙ ap (λ ss. path true (steps_of ss)) (sym c.as_slice-steps.ensures) in
@@ -474,8 +474,8 @@ evaluate::all_like-returns-then-is_empty-clause-none t c =
     (λ differs. subst (λ p. PathFindsWanted p c.args.context.now.root.now c.args.at.now (unlike c.args.like)) (sym (opened ∙ ap (path true) empty)) (string_of c.args.context.now.root.now, of_document c.args.context.now.root.now, differs))
     c.if_like.ensures.none
 
-pub evaluate::all_like-returns-clause-some : goal.evaluate::all_like-returns-clause-some
-evaluate::all_like-returns-clause-some t c =
+pub alike::all_like-returns-clause-some : goal.alike::all_like-returns-clause-some
+alike::all_like-returns-clause-some t c =
     let steps = c.as_slice-steps.result.now in
     let root = c.args.context.now.root.now in
     let w = unlike c.args.like in
@@ -491,8 +491,8 @@ evaluate::all_like-returns-clause-some t c =
     ))
     c.all_like_from-2.ensures.some
 
-pub evaluate::all_like-returns-clause-none : goal.evaluate::all_like-returns-clause-none
-evaluate::all_like-returns-clause-none t c =
+pub alike::all_like-returns-clause-none : goal.alike::all_like-returns-clause-none
+alike::all_like-returns-clause-none t c =
     let steps = c.as_slice-steps.result.now in
     let root = c.args.context.now.root.now in
     let w = unlike c.args.like in
@@ -504,17 +504,17 @@ evaluate::all_like-returns-clause-none t c =
     (search-same steps (Has c.advance-reached.result) (Next steps (Has c.only-start.result) root root) root root w (λ j. (c.advance-reached.ensures j).0) found)))
     c.all_like_from-2.ensures.none
 
-pub evaluate::all_like_from-returns-in_err-itself-clause-none : goal.evaluate::all_like_from-returns-in_err-itself-clause-none
-evaluate::all_like_from-returns-in_err-itself-clause-none t c =
+pub alike::all_like_from-returns-in_err-itself-clause-none : goal.alike::all_like_from-returns-in_err-itself-clause-none
+alike::all_like_from-returns-in_err-itself-clause-none t c =
     none_so _ _ (search-here c.args.steps.now (Has c.args.reached.now) c.args.context.now.root.now c.args.at.now (unlike c.args.like) c.in_err-itself.ensures.none.0 c.in_err-itself.ensures.none.1)
 
-pub evaluate::all_like_from-returns-in_err-last-clause-none : goal.evaluate::all_like_from-returns-in_err-last-clause-none
-evaluate::all_like_from-returns-in_err-last-clause-none t c =
+pub alike::all_like_from-returns-in_err-last-clause-none : goal.alike::all_like_from-returns-in_err-last-clause-none
+alike::all_like_from-returns-in_err-last-clause-none t c =
     none_so _ _ (search-own c.args.steps.now (Has c.args.reached.now) c.args.context.now.root.now c.args.at.now (unlike c.args.like)
     (owns_unlike c.args.steps.now (Has c.args.reached.now) c.args.context.now.root.now c.args.at.now c.args.like c.in_ok-itself.itself c.in_ok-itself.ensures.some.0.1 (c.in_err-last.ensures.none c.args.context.now.root.now)))
 
-pub evaluate::all_like_from-loop-child-init : goal.evaluate::all_like_from-loop-child-init
-evaluate::all_like_from-loop-child-init t c =
+pub alike::all_like_from-loop-child-init : goal.alike::all_like_from-loop-child-init
+alike::all_like_from-loop-child-init t c =
     let w = unlike c.args.like in
     record {
       like = (c.in_ok-last.ensures.some.0.0, c.in_ok-last.ensures.some.0.1 ∙ c.in_ok-itself.ensures.some.0.1);
@@ -527,8 +527,8 @@ evaluate::all_like_from-loop-child-init t c =
       ];
     }
 
-pub evaluate::all_like_from-returns-in_err-last-in-Element-clause-none : goal.evaluate::all_like_from-returns-in_err-last-in-Element-clause-none
-evaluate::all_like_from-returns-in_err-last-in-Element-clause-none t c =
+pub alike::all_like_from-returns-in_err-last-in-Element-clause-none : goal.alike::all_like_from-returns-in_err-last-in-Element-clause-none
+alike::all_like_from-returns-in_err-last-in-Element-clause-none t c =
     let steps = c.args.steps.now in
     let root = c.args.context.now.root.now in
     let inner = c.in-Element.inner in
@@ -540,14 +540,14 @@ evaluate::all_like_from-returns-in_err-last-in-Element-clause-none t c =
     (subst (λ ns. OneOf (λ x. SearchFinds steps (Next steps (Has c.args.reached.now) root x) root x w) (elements_in ns)) c.as_slice-child-items.ensures
     (element-one (λ x. SearchFinds steps (Next steps (Has c.args.reached.now) root x) root x w) _ c.loop-child.child-index inner at found)))
 
-pub evaluate::all_like_from-loop-child-preserved : goal.evaluate::all_like_from-loop-child-preserved
-evaluate::all_like_from-loop-child-preserved t c =
+pub alike::all_like_from-loop-child-preserved : goal.alike::all_like_from-loop-child-preserved
+alike::all_like_from-loop-child-preserved t c =
     let steps = c.args.steps.now in
     let root = c.args.context.now.root.now in
     let w = unlike c.args.like in
     let item = read c.as_slice-child-items.result.now c.loop-child.child-index c.child-item.result c.loop-child-test.true c.child-item.is in
     elim c.match-child.branch [
-      | evaluate::all_like_from-in-Element+in_ok-last-in-Element v ↦ record {
+      | alike::all_like_from-in-Element+in_ok-last-in-Element v ↦ record {
         like = subst (IsLike c.args.like) (sym v.last-is) (v.in_ok-last-in-Element.ensures.some.0.0, v.in_ok-last-in-Element.ensures.some.0.1 ∙ c.loop-child.invariant.like.1);
         unseen = λ found. element-next _ _ c.loop-child.child-index v.in-Element.inner (item ∙ ap Some v.in-Element.is)
             (λ p. v.in_ok-last-in-Element.ensures.some.1
@@ -555,14 +555,14 @@ evaluate::all_like_from-loop-child-preserved t c =
             (search-same steps (Next steps (Has c.args.reached.now) root v.in-Element.inner) (Has v.advance-next.result) root v.in-Element.inner w (λ j. (v.advance-next.ensures j).1) p)))
             (c.loop-child.invariant.unseen found);
       }
-      | evaluate::all_like_from-in-Text v ↦ record {
+      | alike::all_like_from-in-Text v ↦ record {
         like = subst (IsLike c.args.like) (sym v.last-is) c.loop-child.invariant.like;
         unseen = λ found. text-next _ _ c.loop-child.child-index _ (item ∙ ap Some v.in-Text.is) (c.loop-child.invariant.unseen found);
       }
     ]
 
-pub evaluate::all_like_from-advance-next-requires : goal.evaluate::all_like_from-advance-next-requires
-evaluate::all_like_from-advance-next-requires t c =
+pub alike::all_like_from-advance-next-requires : goal.alike::all_like_from-advance-next-requires
+alike::all_like_from-advance-next-requires t c =
     let at = read c.as_slice-child-items.result.now c.loop-child.child-index c.child-item.result c.loop-child-test.true c.child-item.is ∙ ap Some c.in-Element.is in
     let deeper = child_depth c.args.at.now c.in-Element.inner c.loop-child.child-index (subst (λ ns. slice_get ns c.loop-child.child-index ≡ Some (tree.Element c.in-Element.inner)) c.as_slice-child-items.ensures at) in
     let inside = c.requires.inside in
@@ -571,8 +571,8 @@ evaluate::all_like_from-advance-next-requires t c =
       (c.requires.ready, (omega (arith, deeper, inside), (c.requires.guarded, c.requires.small))),
     )
 
-pub evaluate::all_like_from-all_like_from-requires : goal.evaluate::all_like_from-all_like_from-requires
-evaluate::all_like_from-all_like_from-requires t c =
+pub alike::all_like_from-all_like_from-requires : goal.alike::all_like_from-all_like_from-requires
+alike::all_like_from-all_like_from-requires t c =
     let at = read c.as_slice-child-items.result.now c.loop-child.child-index c.child-item.result c.loop-child-test.true c.child-item.is ∙ ap Some c.in-Element.is in
     let deeper = child_depth c.args.at.now c.in-Element.inner c.loop-child.child-index (subst (λ ns. slice_get ns c.loop-child.child-index ≡ Some (tree.Element c.in-Element.inner)) c.as_slice-child-items.ensures at) in
     let inside = c.requires.inside in

@@ -43,74 +43,74 @@ decreases-found::found_from l = rank (weight l.plan.now) (2 * depth l.at.now) l.
 abbrev pub decreases-found::visit_child : goal.decreases-found::visit_child
 decreases-found::visit_child l = rank (weight l.plan.now) (2 * depth l.child.now + 1) l.root.now
 
-abbrev pub decreases-evaluate::compares : goal.decreases-evaluate::compares
-decreases-evaluate::compares l = work l.context.now (size_of_guards l.left.now.guards + size_of_guards l.right.now.guards + 6) 0
+abbrev pub decreases-compare::compares : goal.decreases-compare::compares
+decreases-compare::compares l = work l.context.now (size_of_guards l.left.now.guards + size_of_guards l.right.now.guards + 6) 0
 
-abbrev pub decreases-evaluate::differs : goal.decreases-evaluate::differs
-decreases-evaluate::differs l = work l.context.now (size_of_guards l.left.now.guards + size_of_guards l.right.now.guards + 6) 1
+abbrev pub decreases-compare::differs : goal.decreases-compare::differs
+decreases-compare::differs l = work l.context.now (size_of_guards l.left.now.guards + size_of_guards l.right.now.guards + 6) 1
 
-abbrev pub decreases-evaluate::differ : goal.decreases-evaluate::differ
-decreases-evaluate::differ l = work l.context.now (size_of_guards l.guards.now + size_of_guards l.other_guards.now + 5) 0
+abbrev pub decreases-compare::differ : goal.decreases-compare::differ
+decreases-compare::differ l = work l.context.now (size_of_guards l.guards.now + size_of_guards l.other_guards.now + 5) 0
 
-abbrev pub decreases-evaluate::relates : goal.decreases-evaluate::relates
-decreases-evaluate::relates l = work l.context.now (size_of_guards l.side.now.guards + 2) 0
+abbrev pub decreases-compare::relates : goal.decreases-compare::relates
+decreases-compare::relates l = work l.context.now (size_of_guards l.side.now.guards + 2) 0
 
-abbrev pub decreases-evaluate::first : goal.decreases-evaluate::first
-decreases-evaluate::first l = work l.context.now (size_of_guards l.guards.now + 1) 0
+abbrev pub decreases-first::first : goal.decreases-first::first
+decreases-first::first l = work l.context.now (size_of_guards l.guards.now + 1) 0
 
-abbrev pub decreases-evaluate::first_from : goal.decreases-evaluate::first_from
-decreases-evaluate::first_from l = work l.context.now (size_of_guards l.guards.now) (depth l.at.now + 1)
+abbrev pub decreases-first::first_from : goal.decreases-first::first_from
+decreases-first::first_from l = work l.context.now (size_of_guards l.guards.now) (depth l.at.now + 1)
 
-abbrev pub decreases-evaluate::all_like : goal.decreases-evaluate::all_like
-decreases-evaluate::all_like l = work l.context.now (size_of_guards l.guards.now + 1) 0
+abbrev pub decreases-alike::all_like : goal.decreases-alike::all_like
+decreases-alike::all_like l = work l.context.now (size_of_guards l.guards.now + 1) 0
 
-abbrev pub decreases-evaluate::all_like_from : goal.decreases-evaluate::all_like_from
-decreases-evaluate::all_like_from l = work l.context.now (size_of_guards l.guards.now) (depth l.at.now + 1)
+abbrev pub decreases-alike::all_like_from : goal.decreases-alike::all_like_from
+decreases-alike::all_like_from l = work l.context.now (size_of_guards l.guards.now) (depth l.at.now + 1)
 
-abbrev pub decreases-evaluate::finds : goal.decreases-evaluate::finds
-decreases-evaluate::finds l = work l.context.now (size_of_guards l.guards.now + size_of_wanted l.wanted.now + 1) 0
+abbrev pub decreases-search::finds : goal.decreases-search::finds
+decreases-search::finds l = work l.context.now (size_of_guards l.guards.now + size_of_wanted l.wanted.now + 1) 0
 
-abbrev pub decreases-evaluate::search : goal.decreases-evaluate::search
-decreases-evaluate::search l = work l.context.now (size_of_guards l.guards.now + size_of_wanted l.wanted.now) (depth l.at.now + 1)
+abbrev pub decreases-search::search : goal.decreases-search::search
+decreases-search::search l = work l.context.now (size_of_guards l.guards.now + size_of_wanted l.wanted.now) (depth l.at.now + 1)
 
-abbrev pub decreases-evaluate::advance : goal.decreases-evaluate::advance
-decreases-evaluate::advance l = work l.context.now (size_of_guards l.guards.now) 0
+abbrev pub decreases-search::advance : goal.decreases-search::advance
+decreases-search::advance l = work l.context.now (size_of_guards l.guards.now) 0
 
-abbrev pub decreases-evaluate::goes : goal.decreases-evaluate::goes
-decreases-evaluate::goes l = work l.context.now (size_of_check (check_of l.guard.now) + 1) 1
+abbrev pub decreases-search::goes : goal.decreases-search::goes
+decreases-search::goes l = work l.context.now (size_of_check (check_of l.guard.now) + 1) 1
 
-abbrev pub decreases-evaluate::admits : goal.decreases-evaluate::admits
-decreases-evaluate::admits l = work l.context.now (size_of_check (check_of l.guard.now) + 1) 0
+abbrev pub decreases-search::admits : goal.decreases-search::admits
+decreases-search::admits l = work l.context.now (size_of_check (check_of l.guard.now) + 1) 0
 
-abbrev pub decreases-evaluate::own_attributes : goal.decreases-evaluate::own_attributes
-decreases-evaluate::own_attributes l = work l.context.now (size_of_wanted l.wanted.now) 2
+abbrev pub decreases-search::own_attributes : goal.decreases-search::own_attributes
+decreases-search::own_attributes l = work l.context.now (size_of_wanted l.wanted.now) 2
 
-abbrev pub decreases-evaluate::own_attribute : goal.decreases-evaluate::own_attribute
-decreases-evaluate::own_attribute l = work l.context.now (size_of_wanted l.wanted.now) 1
+abbrev pub decreases-search::own_attribute : goal.decreases-search::own_attribute
+decreases-search::own_attribute l = work l.context.now (size_of_wanted l.wanted.now) 1
 
-abbrev pub decreases-evaluate::suits : goal.decreases-evaluate::suits
-decreases-evaluate::suits l = work l.context.now (size_of_wanted l.wanted.now) 0
+abbrev pub decreases-search::suits : goal.decreases-search::suits
+decreases-search::suits l = work l.context.now (size_of_wanted l.wanted.now) 0
 
-abbrev pub invariant-evaluate::advance-loop-i : goal.invariant-evaluate::advance-loop-i
-invariant-evaluate::advance-loop-i l = (j : ℕ) → Has l.next j ↔ NextBelow l.i l.steps (Has l.reached) l.context.root.now l.at j
+abbrev pub invariant-search::advance-loop-i : goal.invariant-search::advance-loop-i
+invariant-search::advance-loop-i l = (j : ℕ) → Has l.next j ↔ NextBelow l.i l.steps (Has l.reached) l.context.root.now l.at j
 
 -- What is found is found at an attribute that is not yet seen.
-abbrev pub invariant-evaluate::own_attribute-loop-attribute : goal.invariant-evaluate::own_attribute-loop-attribute
-invariant-evaluate::own_attribute-loop-attribute l =
+abbrev pub invariant-search::own_attribute-loop-attribute : goal.invariant-search::own_attribute-loop-attribute
+invariant-search::own_attribute-loop-attribute l =
     (rest : Steps) → OwnAttribute (front_of l.step rest) l.context.root.now l.at l.wanted
     → OneOf (λ a. MeetsName (test_of l.step.test) a.space a.local × Suits l.wanted l.context.root.now a.value) (drop l.attribute-index l.attribute-items)
 
-abbrev pub invariant-evaluate::own_attributes-loop-i : goal.invariant-evaluate::own_attributes-loop-i
-invariant-evaluate::own_attributes-loop-i l = (k : ℕ) → Has l.reached k → k < l.i → OwnAttribute (after k (steps_of l.steps)) l.context.root.now l.at l.wanted → ⊥
+abbrev pub invariant-search::own_attributes-loop-i : goal.invariant-search::own_attributes-loop-i
+invariant-search::own_attributes-loop-i l = (k : ℕ) → Has l.reached k → k < l.i → OwnAttribute (after k (steps_of l.steps)) l.context.root.now l.at l.wanted → ⊥
 
 -- What is found is found from a child that is not yet seen.
-abbrev pub invariant-evaluate::search-loop-child : goal.invariant-evaluate::search-loop-child
-invariant-evaluate::search-loop-child l =
+abbrev pub invariant-search::search-loop-child : goal.invariant-search::search-loop-child
+invariant-search::search-loop-child l =
     SearchFinds l.steps (Has l.reached) l.context.root.now l.at l.wanted
     → OneOf (λ c. SearchFinds l.steps (Next l.steps (Has l.reached) l.context.root.now c) l.context.root.now c l.wanted) (elements_in (drop l.child-index l.child-items))
 
-abbrev pub invariant-evaluate::first_from-loop-child : goal.invariant-evaluate::first_from-loop-child
-invariant-evaluate::first_from-loop-child l =
+abbrev pub invariant-first::first_from-loop-child : goal.invariant-first::first_from-loop-child
+invariant-first::first_from-loop-child l =
     SearchFinds l.steps (Has l.reached) l.context.root.now l.at anything
     → OneOf (λ c. SearchFinds l.steps (Next l.steps (Has l.reached) l.context.root.now c) l.context.root.now c anything) (elements_in (drop l.child-index l.child-items))
 
@@ -129,8 +129,8 @@ abbrev pub decreases-passes::add_from_child-loop-i : goal.decreases-passes::add_
 decreases-passes::add_from_child-loop-i l = length l.plan - l.i
 
 -- What differs is found from a child that is not yet seen.
-abbrev pub invariant-evaluate::all_like_from-loop-child : goal.invariant-evaluate::all_like_from-loop-child
-invariant-evaluate::all_like_from-loop-child l = record {
+abbrev pub invariant-alike::all_like_from-loop-child : goal.invariant-alike::all_like_from-loop-child
+invariant-alike::all_like_from-loop-child l = record {
   like : IsLike l.fn.like l.last;
   unseen : SearchFinds l.steps (Has l.reached) l.context.root.now l.at (unlike l.fn.like)
       → OneOf (λ c. SearchFinds l.steps (Next l.steps (Has l.reached) l.context.root.now c) l.context.root.now c (unlike l.fn.like)) (elements_in (drop l.child-index l.child-items));

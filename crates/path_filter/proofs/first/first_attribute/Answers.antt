@@ -6,8 +6,8 @@ use Rattle.path_filter.specs.Search.{after}
 use Rattle.path_filter.specs.Wanted.{anything, exactly}
 use Rattle.path_filter.proofs.EvaluateSteps.{below-more, contra, read}
 use Rattle.path_filter.proofs.PositionLaws.{after-at, fewer}
-use Rattle.path_filter.proofs.evaluate.first_attribute.Goals.{then-has+in_default, else-has}
-use Rattle.path_filter.proofs.evaluate.first_attribute.Goals as goal
+use Rattle.path_filter.proofs.first.first_attribute.Goals.{then-has+in_default, else-has}
+use Rattle.path_filter.proofs.first.first_attribute.Goals as goal
 
 pub has-requires : goal.has-requires
 has-requires c = omega (arith, fewer c.args.steps.now, c.requires.small, c.loop-i-test.true)

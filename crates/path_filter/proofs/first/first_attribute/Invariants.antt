@@ -5,7 +5,7 @@ use Rattle.path_filter.specs.Evaluate.{OwnAttribute}
 use Rattle.path_filter.specs.Positions.{Has}
 use Rattle.path_filter.specs.Search.{after}
 use Rattle.path_filter.specs.Wanted.{anything}
-use Rattle.path_filter.proofs.evaluate.first_attribute.Given as goal
+use Rattle.path_filter.proofs.first.first_attribute.Given as goal
 
 abbrev pub invariant-loop-i : goal.invariant-loop-i
 invariant-loop-i l = (root : Element) (k : ℕ) → Has l.reached k → k < l.i → OwnAttribute (after k (steps_of l.steps)) root l.at anything → ⊥

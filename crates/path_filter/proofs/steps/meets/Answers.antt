@@ -6,7 +6,7 @@ use Rattle.path_filter.specs.Meaning.{MeetsName}
 use Rattle.filter_text.specs.View.{test_of}
 use Rattle.path_filter.proofs.EvaluateSteps.{name-meets}
 use Rattle.filter_text.specs.declared.filter.Test.TheVariants as tests
-use Rattle.path_filter.proofs.evaluate.meets.Goals as goal
+use Rattle.path_filter.proofs.steps.meets.Goals as goal
 
 pub returns-then-is_empty : goal.returns-then-is_empty
 returns-then-is_empty c =

@@ -6,7 +6,7 @@ use Rattle.path_filter.specs.Evaluate.{OwnAttribute}
 use Rattle.path_filter.specs.Meaning.{MeetsName}
 use Rattle.path_filter.specs.Search.{OneOf}
 use Rattle.path_filter.specs.Wanted.{Suits, anything}
-use Rattle.path_filter.proofs.evaluate.attribute_of.Given as goal
+use Rattle.path_filter.proofs.first.attribute_of.Given as goal
 
 -- What the step names is an attribute that is not yet seen.
 abbrev pub invariant-loop-attribute : goal.invariant-loop-attribute

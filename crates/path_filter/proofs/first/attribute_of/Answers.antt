@@ -6,7 +6,7 @@ use Rattle.path_filter.specs.declared.wanted.Found.{Found}
 use Rattle.path_filter.specs.declared.wanted.Found.TheVariants as found
 use Rattle.path_filter.proofs.EvaluateSteps.{Attributes, contra, meets-as, one-next, one-past, own-in, own-out, read}
 use Rattle.path_filter.proofs.SearchLaws.{one-at}
-use Rattle.path_filter.proofs.evaluate.attribute_of.Goals as goal
+use Rattle.path_filter.proofs.first.attribute_of.Goals as goal
 
 pub loop-attribute-init : goal.loop-attribute-init
 loop-attribute-init c = λ root rest own. subst (OneOf _) (sym c.as_slice-attribute-items.ensures) (own-in c.args.step.now rest root c.args.at.now anything own).1
