@@ -1,24 +1,27 @@
 -- The steps of an evaluation, over plain variables.
 use Rattle.std.proofs.Common.{Bool, true, false, ◌≡◌, ◌⊎◌, ◌↔◌, inl, inr, IsTrue, ℕ, zero, suc, ◌<◌, ◌≤◌, ◌+◌, List, [], ◌∷◌, ◌++◌, Option, Some, None, refl, sym, ◌∙◌, ap, subst, arith, length, map, drop, take, get_or}
 use Rattle.std.specs.List.{slice_get}
-use Rattle.std.specs.Bool.{Decides}
+use Rattle.std.specs.Bool.{Decides, ◌==◌}
 use Rattle.std.proofs.lemmas.Option.{slice_get_read}
 use Rattle.voe_tree.specs.declared.element.Element.{Element}
 use Rattle.voe_tree.specs.declared.element.Node.{Node}
 use Rattle.voe_tree.specs.declared.element.Node.TheVariants as tree
-use Rattle.filter_text.specs.Filter.{Text, Part, element, attribute, Steps, arrived, step}
+use Rattle.filter_text.specs.Filter.{Text, Part, path, element, attribute, Steps, arrived, step}
 use Rattle.std.specs.List.{cons_option}
 use Rattle.voe_tree.specs.Contents.{element_in, elements_in}
+use Rattle.voe_tree.specs.Shape.{depth}
 use Rattle.path_filter.specs.Places.{document}
 use Rattle.path_filter.specs.Meaning.{MeetsName}
-use Rattle.filter_text.specs.View.{steps_of, front_of, axis_of, part_of, test_of, condition_of, conditions_of}
+use Rattle.filter_text.specs.View.{path_of, steps_of, front_of, axis_of, part_of, test_of, condition_of, conditions_of}
 use Rattle.filter_text.specs.Size.{size_of_steps, size_of_conditions, steps_in_steps}
 use Rattle.path_filter.specs.Search.{OneOf, after}
 use Rattle.path_filter.specs.Wanted.{Suits}
-use Rattle.path_filter.specs.Evaluate.{Goes, Stays, FindsOwn, SearchFinds, OwnAttribute, FindsWanted, Next, NextBelow}
+use Rattle.path_filter.specs.Evaluate.{Goes, Stays, FindsOwn, SearchFinds, OwnAttribute, FindsWanted, Next, NextBelow, PathFindsWanted}
 use Rattle.path_filter.specs.declared.wanted.Wanted.{Wanted}
+use Rattle.filter_text.specs.declared.filter.Path.{Path as CodePath, out-Path}
 use Rattle.filter_text.specs.declared.filter.Step.{Step}
-use Rattle.path_filter.proofs.Views.{front-out}
+use Rattle.path_filter.proofs.Ranks.{child_depth}
+use Rattle.path_filter.proofs.Views.{front-out, path-out}
 use Rattle.path_filter.proofs.SearchLaws.{one-at, one-found}
 use Rattle.path_filter.proofs.PositionLaws.{search-in, search-children, elements_in-element, elements_in-text}
 
@@ -239,3 +242,24 @@ document-out ss R root w first found =
 pub name-meets : (wanted space local : Text) (same : Bool) → (length space ≡ 0) → Decides same (local ≡ wanted) → (IsTrue same → (space ≡ []) × (local ≡ wanted)) × ((space ≡ []) × (local ≡ wanted) → IsTrue same)
 name-meets wanted [] local same none is = (λ h. (refl, is.0 h), λ m. is.1 m.1)
 name-meets wanted (b ∷ bs) local same none is = absurd (omega (arith, none))
+
+-- ---- a path from the document, by a search from the root
+
+pub rooted : (p : CodePath) (ss : List Step) → (out-Path p).is_absolute ≡ true → ss ≡ (out-Path p).steps → path_of p ≡ path true (steps_of ss)
+rooted p ss absolute is = path-out p ∙ ap (λ b. path b (steps_of (out-Path p).steps)) absolute ∙ ap (λ xs. path true (steps_of xs)) (sym is)
+
+pub rooted_out : (p : CodePath) (ss : List Step) (R N : ℕ → Type 0) (root e : Element) (w : Wanted) → (out-Path p).is_absolute ≡ true → ss ≡ (out-Path p).steps
+    → ((i : ℕ) → R i ↔ First i) → ((j : ℕ) → N j ↔ Next ss R root root j) → SearchFinds ss N root root w → PathFindsWanted (path_of p) root e w
+rooted_out p ss R N root e w absolute is only next found =
+    subst (λ q. PathFindsWanted q root e w) (sym (rooted p ss absolute is))
+    (document-out ss R root w (λ i. (only i).0) (search-same ss N (Next ss R root root) root root w (λ j. (next j).0) found))
+
+pub rooted_in : (p : CodePath) (ss : List Step) (R N : ℕ → Type 0) (root e : Element) (w : Wanted) → (out-Path p).is_absolute ≡ true → ss ≡ (out-Path p).steps
+    → ((i : ℕ) → R i ↔ First i) → ((j : ℕ) → N j ↔ Next ss R root root j) → (length ss == 0) ≡ false → PathFindsWanted (path_of p) root e w → SearchFinds ss N root root w
+rooted_in p ss R N root e w absolute is only next some found =
+    search-same ss (Next ss R root root) N root root w (λ j. (next j).1)
+    (document-in ss R root w (λ i. (only i).1) (λ none. contra (length ss == 0) (rw none refl) some) (subst (λ q. PathFindsWanted q root e w) (rooted p ss absolute is) found))
+
+-- a child that a loop comes to nests less deep
+pub child_falls : (e : Element) (ns : List Node) (i : ℕ) (item : Node) (c : Element) → i < length ns → item ≡ get_or ns i item → item ≡ tree.Element c → ns ≡ e.children → depth c < depth e
+child_falls e ns i item c lt is opened same = child_depth e c i (subst (λ xs. slice_get xs i ≡ Some (tree.Element c)) same (read ns i item lt is ∙ ap Some opened))

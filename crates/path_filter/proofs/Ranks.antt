@@ -41,9 +41,6 @@ falls-within a b x y root le within =
     let whole = mul-le a (2 * depth root + 4) b (2 * depth root + 4) le (omega arith) in
     omega (arith, whole, within)
 
-pub some_depth : (e : Element) → 0 < depth e
-some_depth e = omega (arith, depth_out e)
-
 pub falls-work : (c : Context) (a b x y : ℕ) → a < b → x < 2 * depth c.root.now + 4 → work c a x < work c b y
 falls-work c a b x y smaller within = falls-size (weight c.plan.now + a) (weight c.plan.now + b) x y c.root.now (omega (arith, smaller)) within
 

@@ -1,12 +1,8 @@
 use Rattle.std.proofs.Common.{◌≡◌, ◌↔◌, ◌⊎◌, inl, inr, Some, true, ◌+◌, ◌*◌, ℕ, suc, length, eqb-true, ◌≢◌, take, [], IsTrue, ◌≤◌, arith, refl, sym, ◌∙◌, ap, subst}
-use Rattle.std.specs.Bool.{◌==◌}
-use Rattle.std.specs.List.{slice_get}
 use Rattle.filter_text.specs.Filter.{arrived, path, differs}
 use Rattle.filter_text.specs.View.{comparison_of, operand_of, path_of, steps_of, test_of}
-use Rattle.filter_text.specs.declared.filter.Path.{out-Path}
 use Rattle.voe_tree.specs.Contents.{elements_in, string_of}
 use Rattle.voe_tree.specs.Shape.{depth}
-use Rattle.voe_tree.specs.declared.element.Node.TheVariants as tree
 use Rattle.path_filter.specs.Evaluate.{Goes, Stays, SearchFinds, OwnAttribute, PathFindsWanted, Next, NextBelow}
 use Rattle.path_filter.specs.Plan.{CheckHolds, FromChild, check_of, compared, guards_of, newest, side, size_of_check, size_of_checks, size_of_guards, stage_checks, weight}
 use Rattle.path_filter.specs.Positions.{Has}
@@ -15,17 +11,16 @@ use Rattle.path_filter.specs.Wanted.{IsLike, IsShallow, Suits, anything, exactly
 use Rattle.path_filter.specs.declared.wanted.Found.TheVariants as places
 use Rattle.path_filter.proofs.CheckViews.{compared-out}
 use Rattle.path_filter.proofs.DifferLaws.{if_none, if_some, none_so, others_decide, owns_unlike, search_unlike}
-use Rattle.path_filter.proofs.EvaluateSteps.{read, one-next, one-past, element-next, element-split, text-next, element-one, search-same, Attributes, own-in, own-out, added, not_added, advanced, skipped, contra, meets-as, below-more, document-in, document-out, no_steps, past-end}
+use Rattle.path_filter.proofs.EvaluateSteps.{read, one-next, one-past, element-next, element-split, text-next, element-one, search-same, Attributes, own-in, own-out, added, not_added, advanced, skipped, contra, meets-as, below-more, child_falls, no_steps, past-end, rooted, rooted_in, rooted_out}
 use Rattle.path_filter.proofs.GuardLaws.{guard_at, guard_holds, guards_length, goes_in, goes_out}
 use Rattle.path_filter.proofs.HasLaws.{has_or_not}
 use Rattle.path_filter.proofs.MarkLaws.{small_at, skip_marked, one_marked, all_marked, within}
 use Rattle.path_filter.proofs.PlanLaws.{FromChildAt, newest_length, before, found_in, found_own, found_child, stage_get, child_same}
 use Rattle.path_filter.proofs.PositionLaws.{fewer, after-at, search-in, search-here, search-own, search-children}
 use Rattle.path_filter.proofs.PrefixLaws.{front_knows, front_length, front_weight, made_front, made_small, refers_front, refers_small}
-use Rattle.path_filter.proofs.Ranks.{falls-size, falls-within, falls-work, falls-work-within, child_depth}
+use Rattle.path_filter.proofs.Ranks.{falls-size, falls-within, falls-work, falls-work-within}
 use Rattle.path_filter.proofs.SearchLaws.{one-at}
 use Rattle.path_filter.proofs.Texts.{of_document}
-use Rattle.path_filter.proofs.Views.{path-out}
 use Rattle.path_filter.proofs.+evaluate.Goals.{search::advance-then-has+then-goes, search::advance-then-stays, search::advance-else-stays, search::advance-then-has+else-goes, search::advance-else-has, search::own_attribute-else-meets-via-then-meets+else-suits, search::own_attribute-else-meets-via-else-meets, search::own_attributes-else-has-via-then-has+else-own_attribute, search::own_attributes-else-has-via-else-has, search::search-else-has-via-then-has+else-suits, search::search-else-has-via-else-has, search::search-in-Element+else-search, search::search-in-Text, first::first_from-in-Element+in_default-first_from, first::first_from-in-Text, alike::all_like_from-in-Element+in_ok-last-in-Element, alike::all_like_from-in-Text, found::found_from-in-Element+else-is_done, found::found_from-in-Text}
 use Rattle.path_filter.proofs.+evaluate.Goals as goal
 
@@ -55,8 +50,7 @@ passes::add_from_child-add_one-requires t c =
 
 pub found::found_from-visit_child-requires : goal.found::found_from-visit_child-requires
 found::found_from-visit_child-requires t c =
-    let at = read c.as_slice-child-items.result.now c.loop-child.child-index c.child-item.result c.loop-child-test.true c.child-item.is ∙ ap Some c.in-Element.is in
-    let deeper = child_depth c.args.at.now c.in-Element.inner c.loop-child.child-index (subst (λ ns. slice_get ns c.loop-child.child-index ≡ Some (tree.Element c.in-Element.inner)) c.as_slice-child-items.ensures at) in
+    let deeper = child_falls c.args.at.now c.as_slice-child-items.result.now c.loop-child.child-index c.child-item.result c.in-Element.inner c.loop-child-test.true c.child-item.is c.in-Element.is c.as_slice-child-items.ensures in
     let inside = c.requires.inside in (
       omega (arith, c.decreases, falls-within (weight c.args.plan.now) (weight c.args.plan.now) (2 * depth c.in-Element.inner + 1) (2 * depth c.args.at.now) c.args.root.now (omega arith) (omega (arith, deeper))),
       (c.requires.shallow, (omega (arith, deeper, inside), (c.requires.made, (c.requires.small, (c.requires.few, c.requires.knows))))),
@@ -119,8 +113,7 @@ search::advance-goes-requires t c =
 
 pub first::first_from-advance-next-requires : goal.first::first_from-advance-next-requires
 first::first_from-advance-next-requires t c =
-    let at = read c.as_slice-child-items.result.now c.loop-child.child-index c.child-item.result c.loop-child-test.true c.child-item.is ∙ ap Some c.in-Element.is in
-    let deeper = child_depth c.args.at.now c.in-Element.inner c.loop-child.child-index (subst (λ ns. slice_get ns c.loop-child.child-index ≡ Some (tree.Element c.in-Element.inner)) c.as_slice-child-items.ensures at) in
+    let deeper = child_falls c.args.at.now c.as_slice-child-items.result.now c.loop-child.child-index c.child-item.result c.in-Element.inner c.loop-child-test.true c.child-item.is c.in-Element.is c.as_slice-child-items.ensures in
     let inside = c.requires.inside in
     let size = size_of_guards c.args.guards.now in (
       omega (arith, c.decreases, falls-work-within c.args.context.now size size 0 (depth c.args.at.now + 1) (omega arith) (omega arith)),
@@ -129,8 +122,7 @@ first::first_from-advance-next-requires t c =
 
 pub first::first_from-first_from-requires : goal.first::first_from-first_from-requires
 first::first_from-first_from-requires t c =
-    let at = read c.as_slice-child-items.result.now c.loop-child.child-index c.child-item.result c.loop-child-test.true c.child-item.is ∙ ap Some c.in-Element.is in
-    let deeper = child_depth c.args.at.now c.in-Element.inner c.loop-child.child-index (subst (λ ns. slice_get ns c.loop-child.child-index ≡ Some (tree.Element c.in-Element.inner)) c.as_slice-child-items.ensures at) in
+    let deeper = child_falls c.args.at.now c.as_slice-child-items.result.now c.loop-child.child-index c.child-item.result c.in-Element.inner c.loop-child-test.true c.child-item.is c.in-Element.is c.as_slice-child-items.ensures in
     let inside = c.requires.inside in
     let size = size_of_guards c.args.guards.now in (
       omega (arith, c.decreases, falls-work-within c.args.context.now size size (depth c.in-Element.inner + 1) (depth c.args.at.now + 1) (omega arith) (omega (arith, deeper))),
@@ -139,8 +131,7 @@ first::first_from-first_from-requires t c =
 
 pub search::search-advance-next-requires : goal.search::search-advance-next-requires
 search::search-advance-next-requires t c =
-    let at = read c.as_slice-child-items.result.now c.loop-child.child-index c.child-item.result c.loop-child-test.true c.child-item.is ∙ ap Some c.in-Element.is in
-    let deeper = child_depth c.args.at.now c.in-Element.inner c.loop-child.child-index (subst (λ ns. slice_get ns c.loop-child.child-index ≡ Some (tree.Element c.in-Element.inner)) c.as_slice-child-items.ensures at) in
+    let deeper = child_falls c.args.at.now c.as_slice-child-items.result.now c.loop-child.child-index c.child-item.result c.in-Element.inner c.loop-child-test.true c.child-item.is c.in-Element.is c.as_slice-child-items.ensures in
     let inside = c.requires.inside in
     let size = size_of_guards c.args.guards.now in (
       omega (arith, c.decreases, falls-work-within c.args.context.now size (size + size_of_wanted c.args.wanted.now) 0 (depth c.args.at.now + 1) (omega arith) (omega arith)),
@@ -149,8 +140,7 @@ search::search-advance-next-requires t c =
 
 pub search::search-search-requires : goal.search::search-search-requires
 search::search-search-requires t c =
-    let at = read c.as_slice-child-items.result.now c.loop-child.child-index c.child-item.result c.loop-child-test.true c.child-item.is ∙ ap Some c.in-Element.is in
-    let deeper = child_depth c.args.at.now c.in-Element.inner c.loop-child.child-index (subst (λ ns. slice_get ns c.loop-child.child-index ≡ Some (tree.Element c.in-Element.inner)) c.as_slice-child-items.ensures at) in
+    let deeper = child_falls c.args.at.now c.as_slice-child-items.result.now c.loop-child.child-index c.child-item.result c.in-Element.inner c.loop-child-test.true c.child-item.is c.in-Element.is c.as_slice-child-items.ensures in
     let inside = c.requires.inside in
     let size = size_of_guards c.args.guards.now + size_of_wanted c.args.wanted.now in (
       omega (arith, c.decreases, falls-work-within c.args.context.now size size (depth c.in-Element.inner + 1) (depth c.args.at.now + 1) (omega arith) (omega (arith, deeper))),
@@ -198,19 +188,10 @@ search::advance-loop-i-preserved t c =
     ]
 
 pub search::finds-returns : goal.search::finds-returns
-search::finds-returns t c =
-    let steps_are = c.as_slice-steps.ensures in
-    let opened : path_of c.args.path.now ≡ path true (steps_of c.as_slice-steps.result.now) =
-    path-out c.args.path.now ∙ ap (λ b. path b (steps_of (out-Path c.args.path.now).steps)) c.if-not-path.false ∙ ap (λ ss. path true (steps_of ss)) (sym steps_are) in
-    let some : length c.as_slice-steps.result.now ≡ 0 → ⊥ = λ none. contra (length c.as_slice-steps.result.now == 0) (rw none refl) (sym c.is_empty.ensures ∙ c.if-is_empty.false) in (
-      (λ found. subst (λ p. PathFindsWanted p c.args.context.now.root.now c.args.at.now c.args.wanted.now) (sym opened)
-          (document-out c.as_slice-steps.result.now (Has c.only-start.result) c.args.context.now.root.now c.args.wanted.now (λ i. (c.only-start.ensures i).0)
-          (search-same c.as_slice-steps.result.now (Has c.advance-reached.result) (Next c.as_slice-steps.result.now (Has c.only-start.result) c.args.context.now.root.now c.args.context.now.root.now) c.args.context.now.root.now c.args.context.now.root.now c.args.wanted.now (λ j. (c.advance-reached.ensures j).0) (c.search-2.ensures.0 found)))),
-      (λ found. c.search-2.ensures.1
-          (search-same c.as_slice-steps.result.now (Next c.as_slice-steps.result.now (Has c.only-start.result) c.args.context.now.root.now c.args.context.now.root.now) (Has c.advance-reached.result) c.args.context.now.root.now c.args.context.now.root.now c.args.wanted.now (λ j. (c.advance-reached.ensures j).1)
-          (document-in c.as_slice-steps.result.now (Has c.only-start.result) c.args.context.now.root.now c.args.wanted.now (λ i. (c.only-start.ensures i).1) some
-          (subst (λ p. PathFindsWanted p c.args.context.now.root.now c.args.at.now c.args.wanted.now) opened found)))),
-    )
+search::finds-returns t c = (
+  (λ found. rooted_out c.args.path.now c.as_slice-steps.result.now (Has c.only-start.result) (Has c.advance-reached.result) c.args.context.now.root.now c.args.at.now c.args.wanted.now c.if-not-path.false c.as_slice-steps.ensures c.only-start.ensures c.advance-reached.ensures (c.search-2.ensures.0 found)),
+  (λ found. c.search-2.ensures.1 (rooted_in c.args.path.now c.as_slice-steps.result.now (Has c.only-start.result) (Has c.advance-reached.result) c.args.context.now.root.now c.args.at.now c.args.wanted.now c.if-not-path.false c.as_slice-steps.ensures c.only-start.ensures c.advance-reached.ensures (sym c.is_empty.ensures ∙ c.if-is_empty.false) found)),
+)
 
 pub search::own_attribute-loop-attribute-init : goal.search::own_attribute-loop-attribute-init
 search::own_attribute-loop-attribute-init t c = λ rest found. subst (OneOf _) (sym c.as_slice-attribute-items.ensures) (own-in c.args.step.now rest c.args.context.now.root.now c.args.at.now c.args.wanted.now found).1
@@ -307,31 +288,13 @@ search::search-loop-child-preserved t c =
 
 pub first::first-returns-clause-some : goal.first::first-returns-clause-some
 first::first-returns-clause-some t c =
-    let steps = c.as_slice-steps.result.now in
-    let root = c.args.context.now.root.now in
-    let opened : path_of c.args.path.now ≡ path true (steps_of steps) =
-    path-out c.args.path.now ∙ ap (λ b. path b (steps_of (out-Path c.args.path.now).steps)) c.if-not-path.false ∙ ap (λ ss. path true (steps_of ss)) (sym c.as_slice-steps.ensures) in
-    if_some (λ f. IsShallow f × SearchFinds steps (Has c.advance-reached.result) root root (exactly f)) (λ f. IsShallow f × PathFindsWanted (path_of c.args.path.now) root c.args.at.now (exactly f)) c.first_from-2.result
-    (λ f (shallow, found). (
-      shallow,
-      subst (λ p. PathFindsWanted p root c.args.at.now (exactly f)) (sym opened)
-          (document-out steps (Has c.only-start.result) root (exactly f) (λ i. (c.only-start.ensures i).0)
-          (search-same steps (Has c.advance-reached.result) (Next steps (Has c.only-start.result) root root) root root (exactly f) (λ j. (c.advance-reached.ensures j).0) found)),
-    ))
-    c.first_from-2.ensures.some
+    if_some _ (λ f. IsShallow f × PathFindsWanted (path_of c.args.path.now) c.args.context.now.root.now c.args.at.now (exactly f)) c.first_from-2.result
+    (λ f (shallow, found). (shallow, rooted_out c.args.path.now c.as_slice-steps.result.now (Has c.only-start.result) (Has c.advance-reached.result) c.args.context.now.root.now c.args.at.now (exactly f) c.if-not-path.false c.as_slice-steps.ensures c.only-start.ensures c.advance-reached.ensures found)) c.first_from-2.ensures.some
 
 pub first::first-returns-clause-none : goal.first::first-returns-clause-none
 first::first-returns-clause-none t c =
-    let steps = c.as_slice-steps.result.now in
-    let root = c.args.context.now.root.now in
-    let opened : path_of c.args.path.now ≡ path true (steps_of steps) =
-    path-out c.args.path.now ∙ ap (λ b. path b (steps_of (out-Path c.args.path.now).steps)) c.if-not-path.false ∙ ap (λ ss. path true (steps_of ss)) (sym c.as_slice-steps.ensures) in
-    let some : length steps ≡ 0 → ⊥ = λ none. contra (length steps == 0) (rw none refl) (sym c.is_empty.ensures ∙ c.if-is_empty.false) in
-    if_none (SearchFinds steps (Has c.advance-reached.result) root root anything → ⊥) (PathFindsWanted (path_of c.args.path.now) root c.args.at.now anything → ⊥) c.first_from-2.result
-    (λ none found. none
-    (search-same steps (Next steps (Has c.only-start.result) root root) (Has c.advance-reached.result) root root anything (λ j. (c.advance-reached.ensures j).1)
-    (document-in steps (Has c.only-start.result) root anything (λ i. (c.only-start.ensures i).1) some (subst (λ p. PathFindsWanted p root c.args.at.now anything) opened found))))
-    c.first_from-2.ensures.none
+    if_none _ (PathFindsWanted (path_of c.args.path.now) c.args.context.now.root.now c.args.at.now anything → ⊥) c.first_from-2.result
+    (λ none found. none (rooted_in c.args.path.now c.as_slice-steps.result.now (Has c.only-start.result) (Has c.advance-reached.result) c.args.context.now.root.now c.args.at.now anything c.if-not-path.false c.as_slice-steps.ensures c.only-start.ensures c.advance-reached.ensures (sym c.is_empty.ensures ∙ c.if-is_empty.false) found)) c.first_from-2.ensures.none
 
 pub first::first_from-has-requires : goal.first::first_from-has-requires
 first::first_from-has-requires t c = omega (arith, fewer c.args.steps.now, c.requires.small)
@@ -467,42 +430,23 @@ compare::differ-returns-then-finds t c =
 pub alike::all_like-returns-then-is_empty-clause-none : goal.alike::all_like-returns-then-is_empty-clause-none
 alike::all_like-returns-then-is_empty-clause-none t c =
     let steps = c.as_slice-steps.result.now in
-    let opened : path_of c.args.path.now ≡ path true (steps_of steps) =
-    path-out c.args.path.now ∙ ap (λ b. path b (steps_of (out-Path c.args.path.now).steps)) c.if-not-path.false ∙ ap (λ ss. path true (steps_of ss)) (sym c.as_slice-steps.ensures) in
+    let root = c.args.context.now.root.now in
     let empty : steps_of steps ≡ arrived = no_steps steps (eqb-true (length steps) 0 (sym c.is_empty.ensures ∙ c.if-is_empty.true)) in
-    if_none (string_of c.args.context.now.root.now ≢ text_found c.args.like) (PathFindsWanted (path_of c.args.path.now) c.args.context.now.root.now c.args.at.now (unlike c.args.like)) c.if_like.result
-    (λ differs. subst (λ p. PathFindsWanted p c.args.context.now.root.now c.args.at.now (unlike c.args.like)) (sym (opened ∙ ap (path true) empty)) (string_of c.args.context.now.root.now, of_document c.args.context.now.root.now, differs))
+    if_none (string_of root ≢ text_found c.args.like) (PathFindsWanted (path_of c.args.path.now) root c.args.at.now (unlike c.args.like)) c.if_like.result
+    (λ differs. subst (λ p. PathFindsWanted p root c.args.at.now (unlike c.args.like)) (sym (rooted c.args.path.now steps c.if-not-path.false c.as_slice-steps.ensures ∙ ap (path true) empty)) (string_of root, of_document root, differs))
     c.if_like.ensures.none
 
 pub alike::all_like-returns-clause-some : goal.alike::all_like-returns-clause-some
 alike::all_like-returns-clause-some t c =
-    let steps = c.as_slice-steps.result.now in
-    let root = c.args.context.now.root.now in
     let w = unlike c.args.like in
-    let opened : path_of c.args.path.now ≡ path true (steps_of steps) =
-    path-out c.args.path.now ∙ ap (λ b. path b (steps_of (out-Path c.args.path.now).steps)) c.if-not-path.false ∙ ap (λ ss. path true (steps_of ss)) (sym c.as_slice-steps.ensures) in
-    let some : length steps ≡ 0 → ⊥ = λ none. contra (length steps == 0) (rw none refl) (sym c.is_empty.ensures ∙ c.if-is_empty.false) in
-    if_some (λ last. IsLike c.args.like last × (SearchFinds steps (Has c.advance-reached.result) root root w → ⊥)) (λ last. IsLike c.args.like last × (PathFindsWanted (path_of c.args.path.now) root c.args.at.now w → ⊥)) c.all_like_from-2.result
-    (λ last (like, none). (
-      like,
-      λ found. none
-          (search-same steps (Next steps (Has c.only-start.result) root root) (Has c.advance-reached.result) root root w (λ j. (c.advance-reached.ensures j).1)
-          (document-in steps (Has c.only-start.result) root w (λ i. (c.only-start.ensures i).1) some (subst (λ p. PathFindsWanted p root c.args.at.now w) opened found))),
-    ))
-    c.all_like_from-2.ensures.some
+    if_some _ (λ last. IsLike c.args.like last × (PathFindsWanted (path_of c.args.path.now) c.args.context.now.root.now c.args.at.now w → ⊥)) c.all_like_from-2.result
+    (λ last (like, none). (like, λ found. none (rooted_in c.args.path.now c.as_slice-steps.result.now (Has c.only-start.result) (Has c.advance-reached.result) c.args.context.now.root.now c.args.at.now w c.if-not-path.false c.as_slice-steps.ensures c.only-start.ensures c.advance-reached.ensures (sym c.is_empty.ensures ∙ c.if-is_empty.false) found))) c.all_like_from-2.ensures.some
 
 pub alike::all_like-returns-clause-none : goal.alike::all_like-returns-clause-none
 alike::all_like-returns-clause-none t c =
-    let steps = c.as_slice-steps.result.now in
-    let root = c.args.context.now.root.now in
     let w = unlike c.args.like in
-    let opened : path_of c.args.path.now ≡ path true (steps_of steps) =
-    path-out c.args.path.now ∙ ap (λ b. path b (steps_of (out-Path c.args.path.now).steps)) c.if-not-path.false ∙ ap (λ ss. path true (steps_of ss)) (sym c.as_slice-steps.ensures) in
-    if_none (SearchFinds steps (Has c.advance-reached.result) root root w) (PathFindsWanted (path_of c.args.path.now) root c.args.at.now w) c.all_like_from-2.result
-    (λ found. subst (λ p. PathFindsWanted p root c.args.at.now w) (sym opened)
-    (document-out steps (Has c.only-start.result) root w (λ i. (c.only-start.ensures i).0)
-    (search-same steps (Has c.advance-reached.result) (Next steps (Has c.only-start.result) root root) root root w (λ j. (c.advance-reached.ensures j).0) found)))
-    c.all_like_from-2.ensures.none
+    if_none _ (PathFindsWanted (path_of c.args.path.now) c.args.context.now.root.now c.args.at.now w) c.all_like_from-2.result
+    (λ found. rooted_out c.args.path.now c.as_slice-steps.result.now (Has c.only-start.result) (Has c.advance-reached.result) c.args.context.now.root.now c.args.at.now w c.if-not-path.false c.as_slice-steps.ensures c.only-start.ensures c.advance-reached.ensures found) c.all_like_from-2.ensures.none
 
 pub alike::all_like_from-returns-in_err-itself-clause-none : goal.alike::all_like_from-returns-in_err-itself-clause-none
 alike::all_like_from-returns-in_err-itself-clause-none t c =
@@ -563,8 +507,7 @@ alike::all_like_from-loop-child-preserved t c =
 
 pub alike::all_like_from-advance-next-requires : goal.alike::all_like_from-advance-next-requires
 alike::all_like_from-advance-next-requires t c =
-    let at = read c.as_slice-child-items.result.now c.loop-child.child-index c.child-item.result c.loop-child-test.true c.child-item.is ∙ ap Some c.in-Element.is in
-    let deeper = child_depth c.args.at.now c.in-Element.inner c.loop-child.child-index (subst (λ ns. slice_get ns c.loop-child.child-index ≡ Some (tree.Element c.in-Element.inner)) c.as_slice-child-items.ensures at) in
+    let deeper = child_falls c.args.at.now c.as_slice-child-items.result.now c.loop-child.child-index c.child-item.result c.in-Element.inner c.loop-child-test.true c.child-item.is c.in-Element.is c.as_slice-child-items.ensures in
     let inside = c.requires.inside in
     let size = size_of_guards c.args.guards.now in (
       omega (arith, c.decreases, falls-work-within c.args.context.now size size 0 (depth c.args.at.now + 1) (omega arith) (omega arith)),
@@ -573,8 +516,7 @@ alike::all_like_from-advance-next-requires t c =
 
 pub alike::all_like_from-all_like_from-requires : goal.alike::all_like_from-all_like_from-requires
 alike::all_like_from-all_like_from-requires t c =
-    let at = read c.as_slice-child-items.result.now c.loop-child.child-index c.child-item.result c.loop-child-test.true c.child-item.is ∙ ap Some c.in-Element.is in
-    let deeper = child_depth c.args.at.now c.in-Element.inner c.loop-child.child-index (subst (λ ns. slice_get ns c.loop-child.child-index ≡ Some (tree.Element c.in-Element.inner)) c.as_slice-child-items.ensures at) in
+    let deeper = child_falls c.args.at.now c.as_slice-child-items.result.now c.loop-child.child-index c.child-item.result c.in-Element.inner c.loop-child-test.true c.child-item.is c.in-Element.is c.as_slice-child-items.ensures in
     let inside = c.requires.inside in
     let size = size_of_guards c.args.guards.now in (
       omega (arith, c.decreases, falls-work-within c.args.context.now size size (depth c.in-Element.inner + 1) (depth c.args.at.now + 1) (omega arith) (omega (arith, deeper))),
