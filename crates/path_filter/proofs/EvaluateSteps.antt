@@ -16,7 +16,7 @@ use Rattle.filter_text.specs.View.{path_of, steps_of, front_of, axis_of, part_of
 use Rattle.filter_text.specs.Size.{size_of_steps, size_of_conditions, steps_in_steps}
 use Rattle.path_filter.specs.Search.{OneOf, after}
 use Rattle.path_filter.specs.Wanted.{Suits}
-use Rattle.path_filter.specs.Evaluate.{Goes, Stays, FindsOwn, SearchFinds, OwnAttribute, FindsWanted, Next, NextBelow, PathFindsWanted}
+use Rattle.path_filter.specs.Evaluate.{Goes, FindsOwn, SearchFinds, OwnAttribute, FindsWanted, Next, NextBelow, PathFindsWanted}
 use Rattle.path_filter.specs.declared.wanted.Wanted.{Wanted}
 use Rattle.filter_text.specs.declared.filter.Path.{Path as CodePath, out-Path}
 use Rattle.filter_text.specs.declared.filter.Step.{Step}
@@ -139,38 +139,47 @@ not_added Old at P never j = ((λ o. inl o), (λ o. elim o [ inl x ↦ x | inr x
 pub below-more : (i n : ℕ) → i < n + 1 → (i ≡ n) ⊎ (i < n)
 below-more i n lt = grind arith
 
-pub advanced : (ss : List Step) (R Old Middle New : ℕ → Type 0) (root e : Element) (i : ℕ) → R i
+-- positions that are in one set and good, up to one more
+pub one_more : (Old New R S : ℕ → Type 0) (i : ℕ) → R i → S i → ((j : ℕ) → New j ↔ (Old j ⊎ (j ≡ i))) → ((j : ℕ) → Old j ↔ (R j × (j < i) × S j)) → (j : ℕ) → New j ↔ (R j × (j < i + 1) × S j)
+one_more Old New R S i r s new old j = (
+  (λ n. elim ((new j).0 n) [ inl o ↦ (let f = (old j).0 o in (f.0, omega (arith, f.1), f.2)) | inr e ↦ (subst R (sym e) r, omega (arith, e), subst S (sym e) s) ]),
+  (λ (q, lt, good). (new j).1 (elim (below-more j i lt) [ inl same ↦ inr same | inr less ↦ inl ((old j).1 (q, less, good)) ])),
+)
+
+pub none_more : (Old R S : ℕ → Type 0) (i : ℕ) → (R i → S i → ⊥) → ((j : ℕ) → Old j ↔ (R j × (j < i) × S j)) → (j : ℕ) → Old j ↔ (R j × (j < i + 1) × S j)
+none_more Old R S i never old j = (
+  (λ o. let f = (old j).0 o in (f.0, omega (arith, f.1), f.2)),
+  (λ (q, lt, good). elim (below-more j i lt) [ inl same ↦ absurd (never (subst R same q) (subst S same good)) | inr less ↦ (old j).1 (q, less, good) ]),
+)
+
+pub there_already : (Old : ℕ → Type 0) (at : ℕ) (P : Type 0) → Old at → (j : ℕ) → Old j ↔ (Old j ⊎ ((j ≡ at) × P))
+there_already Old at P is j = ((λ o. inl o), (λ o. elim o [ inl x ↦ x | inr x ↦ subst Old (sym x.0) is ]))
+
+pub advanced : (ss : List Step) (R Old New : ℕ → Type 0) (root e : Element) (i : ℕ) → R i
     → ((j : ℕ) → Old j ↔ NextBelow i ss R root e j)
-    → ((j : ℕ) → Middle j ↔ (Old j ⊎ ((j ≡ i) × Stays (after i (steps_of ss)))))
-    → ((j : ℕ) → New j ↔ (Middle j ⊎ ((j ≡ i + 1) × Goes (after i (steps_of ss)) root e)))
+    → ((j : ℕ) → New j ↔ (Old j ⊎ ((j ≡ i + 1) × Goes (after i (steps_of ss)) root e)))
     → (j : ℕ) → New j ↔ NextBelow (i + 1) ss R root e j
-advanced ss R Old Middle New root e i reached old middle new j = (forth, back)
+advanced ss R Old New root e i reached old new j = (forth, back)
   where
     one : i + 1 ≡ suc i
     one = omega arith
 
     wider : NextBelow i ss R root e j → NextBelow (i + 1) ss R root e j
     wider (inl (k, r, lt, is, goes)) = inl (k, r, omega (arith, lt), is, goes)
-    wider (inr (r, lt, stays)) = inr (r, omega (arith, lt), stays)
+    wider (inr stays) = inr stays
 
     forth : New j → NextBelow (i + 1) ss R root e j
     forth n = elim ((new j).0 n) [
-      | inl m ↦ (elim ((middle j).0 m) [
-        | inl o ↦ wider ((old j).0 o)
-        | inr s ↦ inr (subst R (sym s.0) reached, omega (arith, s.0), subst (λ k. Stays (after k (steps_of ss))) (sym s.0) s.1)
-      ])
+      | inl o ↦ wider ((old j).0 o)
       | inr g ↦ inl (i, reached, omega arith, g.0 ∙ one, g.1)
     ]
 
     back : NextBelow (i + 1) ss R root e j → New j
     back (inl (k, r, lt, is, goes)) = elim (below-more k i lt) [
       | inl same ↦ (new j).1 (inr (is ∙ ap suc same ∙ sym one, subst (λ n. Goes (after n (steps_of ss)) root e) same goes))
-      | inr less ↦ (new j).1 (inl ((middle j).1 (inl ((old j).1 (inl (k, r, less, is, goes))))))
+      | inr less ↦ (new j).1 (inl ((old j).1 (inl (k, r, less, is, goes))))
     ]
-    back (inr (r, lt, stays)) = elim (below-more j i lt) [
-      | inl same ↦ (new j).1 (inl ((middle j).1 (inr (same, subst (λ n. Stays (after n (steps_of ss))) same stays))))
-      | inr less ↦ (new j).1 (inl ((middle j).1 (inl ((old j).1 (inr (r, less, stays))))))
-    ]
+    back (inr stays) = (new j).1 (inl ((old j).1 (inr stays)))
 
 pub skipped : (ss : List Step) (R Old : ℕ → Type 0) (root e : Element) (i : ℕ) → (R i → ⊥)
     → ((j : ℕ) → Old j ↔ NextBelow i ss R root e j) → (j : ℕ) → Old j ↔ NextBelow (i + 1) ss R root e j
@@ -181,17 +190,14 @@ skipped ss R Old root e i not old j = (forth, back)
       where
         wider : NextBelow i ss R root e j → NextBelow (i + 1) ss R root e j
         wider (inl (k, r, lt, is, goes)) = inl (k, r, omega (arith, lt), is, goes)
-        wider (inr (r, lt, stays)) = inr (r, omega (arith, lt), stays)
+        wider (inr stays) = inr stays
 
     back : NextBelow (i + 1) ss R root e j → Old j
     back (inl (k, r, lt, is, goes)) = elim (below-more k i lt) [
       | inl same ↦ absurd (not (subst R same r))
       | inr less ↦ (old j).1 (inl (k, r, less, is, goes))
     ]
-    back (inr (r, lt, stays)) = elim (below-more j i lt) [
-      | inl same ↦ absurd (not (subst R same r))
-      | inr less ↦ (old j).1 (inr (r, less, stays))
-    ]
+    back (inr stays) = (old j).1 (inr stays)
 
 pub contra : (b : Bool) → b ≡ true → b ≡ false → ⊥
 contra b holds fails = let bad : true ≡ false = sym holds ∙ fails in (let absurdity : ⊥ = cc in absurdity)

@@ -32,11 +32,11 @@ FindsWanted ss root e w = (s : Text) × Finds ss root e s × Suits w root s
 abbrev pub SearchFinds : List Step → (ℕ → Type 0) → Element → Element → Wanted → Type 0
 SearchFinds ss Reached root e w = (i : ℕ) × Reached i × (i ≤ length ss) × FindsWanted (after i (steps_of ss)) root e w
 
--- the positions that are reached at a child, from those of its parent below `n`
+-- the positions that are reached at a child, from those of its parent, by steps that stay, and those below `n` that go to it
 abbrev pub NextBelow : ℕ → List Step → (ℕ → Type 0) → Element → Element → ℕ → Type 0
 NextBelow n ss Reached root e j =
     ((i : ℕ) × Reached i × (i < n) × (j ≡ suc i) × Goes (after i (steps_of ss)) root e)
-    ⊎ (Reached j × (j < n) × Stays (after j (steps_of ss)))
+    ⊎ (Reached j × (j < length ss) × Stays (after j (steps_of ss)))
 
 abbrev pub Next : List Step → (ℕ → Type 0) → Element → Element → ℕ → Type 0
 Next ss = NextBelow (length ss) ss

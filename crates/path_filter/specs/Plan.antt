@@ -167,7 +167,7 @@ stage_at (x ∷ earlier) i = if i == length earlier then Some x else stage_at ea
 abbrev pub IsOfDocument : List Stage → ℕ → Type 0
 IsOfDocument plan i = (x : Stage) × (stage_at plan i ≡ Some x) × (x.of_document ≡ true)
 
--- the check holds at each element where the conditions do
+-- the check holds at an element exactly where the conditions do
 abbrev pub StandsFor : List Stage → Check → Conditions → Type 0
 StandsFor plan k cs = (root e : Element) → CheckHolds (λ j. At plan root j e) (λ j. At plan root j (document root)) root e k ↔ Each cs root e
 
@@ -176,7 +176,8 @@ abbrev pub way_of : Operand → Steps
 way_of (found (path absolute ss)) = ss
 way_of _ = arrived
 
--- ---- which plans are well made: a stage refers to earlier ones
+-- ---- which plans are well made: a stage refers to earlier ones, and the guards of its comparisons stand for the
+-- conditions of their paths
 
 abbrev mutual
   pub CheckRefers : List Stage → Check → Type 0

@@ -21,7 +21,7 @@ pub record Grows (old new : List Stage) (n : ℕ) : Type 0 where
   pub made : IsMade new
   pub few : length new ≤ length old + n
 
--- the check holds where the condition does
+-- the check holds at an element exactly where the condition does
 pub record Means (plan : List Stage) (k : Check) (c : Condition) : Type 0 where
   pub refers : CheckRefers plan k
   pub holds : (root e : Element) → CheckHolds (λ j. At plan root j e) (λ j. At plan root j (document root)) root e k ↔ Is c root e

@@ -50,8 +50,8 @@ abbrev pub size_of_wanted : Wanted → ℕ
 size_of_wanted (wanted.RelatedToOne how side e) = size_of_guards side.now.guards + 3
 size_of_wanted _ = 0
 
--- The checks of a side stand for the conditions of its path, the side's element nests no deeper than the root, and one
--- that is compared no deeper than 64.
+-- The checks of a side stand for the conditions of its path, which has at most 512 steps, and its element nests no deeper
+-- than the root. An element that is compared nests no deeper than 64.
 abbrev pub IsSound : Wanted → Context → Type 0
 IsSound (wanted.RelatedToOne how side e) c =
     Guarded (newest c.plan.now) (operand_of side.now.operand) (guards_of side.now) × (steps_in_operand (operand_of side.now.operand) ≤ 512) × (depth e.now ≤ depth c.root.now)

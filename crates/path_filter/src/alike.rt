@@ -16,7 +16,7 @@ use crate::context::Context;
 use crate::plan::Check;
 use crate::positions::Positions;
 use crate::search::advance;
-use crate::steps::{meets, names_attributes};
+use crate::steps::{is_nowhere, meets, names_attributes};
 use crate::text::have_same_text;
 use crate::wanted::Found;
 use filter_text::{Path, Step};
@@ -70,6 +70,9 @@ fn all_like_from<'a>(
     ensures some { IfSome result (λ last. IsLike like.entry last × (SearchFinds steps.now (Has reached.now) context.now.root.now at.now (unlike like.entry) → ⊥)) }
     ensures none { IfNone result (SearchFinds steps.now (Has reached.now) context.now.root.now at.now (unlike like.entry)) }
 {
+    if is_nowhere(steps, reached) {
+        return Some(like);
+    }
     let itself = itself_like(steps, reached, at, like)?;
     let mut last = attributes_like(steps, reached, at, itself)?;
     for child in at.children.as_slice() {

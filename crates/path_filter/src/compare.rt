@@ -2,7 +2,7 @@
 
 ghost use Rattle.std.specs.Prelude.{◌↔◌, ◌≤◌, ◌+◌, IsTrue, map};
 ghost use Rattle.voe_tree.specs.Shape.{depth};
-ghost use Rattle.filter_text.specs.Filter.{compare, differs, found as path_operand};
+ghost use Rattle.filter_text.specs.Filter.{compare, found as path_operand};
 ghost use Rattle.filter_text.specs.Size.{steps_in_operand, steps_in_path};
 ghost use Rattle.filter_text.specs.View.{comparison_of, operand_of, path_of};
 ghost use Rattle.path_filter.specs.Contexts.{IsReady};
@@ -34,7 +34,7 @@ pub fn are_related(left: Found<'_>, how: Comparison, right: Found<'_>) -> bool
 #[cycle(evaluate)]
 pub fn compares(
     left: &Side,
-    how: &Comparison,
+    how: Comparison,
     right: &Side,
     context: &Context<'_>,
     at: &Element,
@@ -43,39 +43,21 @@ pub fn compares(
     requires inside { depth at.now ≤ depth context.now.root.now }
     requires refers { Guarded (newest context.now.plan.now) (operand_of left.now.operand) (guards_of left.now) × Guarded (newest context.now.plan.now) (operand_of right.now.operand) (guards_of right.now) }
     requires small { steps_in_operand (operand_of left.now.operand) + steps_in_operand (operand_of right.now.operand) ≤ 512 }
-    ensures { IsTrue result ↔ Is (compare (operand_of left.now.operand) (comparison_of how.now) (operand_of right.now.operand)) context.now.root.now at.now }
+    ensures { IsTrue result ↔ Is (compare (operand_of left.now.operand) (comparison_of how) (operand_of right.now.operand)) context.now.root.now at.now }
 {
     match &left.operand {
-        Operand::Literal(text) => relates(right, *how, Found::Text(text.as_str()), context, at),
-        Operand::LocalName => relates(right, *how, Found::Text(at.local.as_str()), context, at),
+        Operand::Literal(text) => relates(right, how, Found::Text(text.as_str()), context, at),
+        Operand::LocalName => relates(right, how, Found::Text(at.local.as_str()), context, at),
         Operand::Path(path) => {
-            let wanted = Wanted::RelatedToOne(*how, right, at);
-            finds(path, left.guards.as_slice(), context, at, &wanted)
-        }
-    }
-}
-
-/// Whether some string of the one side differs from some string of the other.
-#[cycle(evaluate)]
-pub fn differs(left: &Side, right: &Side, context: &Context<'_>, at: &Element) -> bool
-    requires ready { IsReady context.now }
-    requires inside { depth at.now ≤ depth context.now.root.now }
-    requires refers { Guarded (newest context.now.plan.now) (operand_of left.now.operand) (guards_of left.now) × Guarded (newest context.now.plan.now) (operand_of right.now.operand) (guards_of right.now) }
-    requires small { steps_in_operand (operand_of left.now.operand) + steps_in_operand (operand_of right.now.operand) ≤ 512 }
-    ensures { IsTrue result ↔ Is (compare (operand_of left.now.operand) differs (operand_of right.now.operand)) context.now.root.now at.now }
-{
-    match &left.operand {
-        Operand::Literal(_) => compares(left, &Comparison::Differs, right, context, at),
-        Operand::LocalName => compares(left, &Comparison::Differs, right, context, at),
-        Operand::Path(path) => match &right.operand {
-            Operand::Literal(_) => compares(left, &Comparison::Differs, right, context, at),
-            Operand::LocalName => compares(left, &Comparison::Differs, right, context, at),
-            Operand::Path(other) => {
-                let guards = left.guards.as_slice();
-                let other_guards = right.guards.as_slice();
-                differ(path, guards, other, other_guards, context, at)
+            let guards = left.guards.as_slice();
+            if how == Comparison::Differs {
+                if let Operand::Path(other) = &right.operand {
+                    return differ(path, guards, other, right.guards.as_slice(), context, at);
+                }
             }
-        },
+            let wanted = Wanted::RelatedToOne(how, right, at);
+            finds(path, guards, context, at, &wanted)
+        }
     }
 }
 
@@ -123,6 +105,7 @@ fn differ(
     requires small { steps_in_path (path_of path.now) + steps_in_path (path_of other.now) ≤ 512 }
     ensures { IsTrue result ↔ PathsDiffer (path_of path.now) (path_of other.now) context.now.root.now at.now }
 {
+    // Lent anew, so that what is found may live no longer than the element.
     let near = Context {
         plan: &*context.plan,
         known: &*context.known,

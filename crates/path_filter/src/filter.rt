@@ -76,7 +76,8 @@ impl Filter {
     }
 
     /// Whether the path names a place of the tree. It takes no memory. Each element is visited once for each path from
-    /// the document, and a visit stops where all that is asked is found.
+    /// the document, and a visit stops where all that is asked is found; comparisons of paths, but for those with a
+    /// literal, are searches of their own.
     pub fn passes(&self, tree: &Tree) -> bool
         ensures { IsTrue result ↔ Passes (path_of self.now) tree.now.root }
     {

@@ -15,7 +15,7 @@ use crate::context::Context;
 use crate::plan::Check;
 use crate::positions::Positions;
 use crate::search::advance;
-use crate::steps::{meets, names_attributes};
+use crate::steps::{is_nowhere, meets, names_attributes};
 use crate::wanted::Found;
 use filter_text::{Path, Step};
 use voe_tree::{Element, Node};
@@ -63,6 +63,9 @@ fn first_from<'a>(
     ensures some { IfSome result (λ f. IsShallow f × SearchFinds steps.now (Has reached.now) context.now.root.now at.now (exactly f)) }
     ensures none { IfNone result (SearchFinds steps.now (Has reached.now) context.now.root.now at.now anything → ⊥) }
 {
+    if is_nowhere(steps, reached) {
+        return None;
+    }
     if reached.has(steps.len()) {
         return Some(Found::Element(at));
     }

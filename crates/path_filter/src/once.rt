@@ -1,7 +1,6 @@
 //! Conditions that are the same at each element.
 
-ghost use Rattle.std.specs.Prelude.{◌≡◌, IfOk, List, true};
-ghost use Rattle.std.specs.Bool.{OnTrue};
+ghost use Rattle.std.specs.Prelude.{◌≡◌, ◌↔◌, IfOk, IsTrue, List, true};
 ghost use Rattle.filter_text.specs.Filter.{Condition as AnyCondition, arrived, child, element, any, more, no_more, step};
 ghost use Rattle.filter_text.specs.View.{operand_of};
 ghost use Rattle.path_filter.specs.Plan.{CheckRefers, StageRefers, check_of};
@@ -14,9 +13,10 @@ use sqlite_items::Items;
 use std::alloc::Global;
 use voe_values::NoMemory;
 
-/// Whether it is a path from the document, and so finds the same at each element.
+/// Whether it is a path from the document, and so finds the same at each element. It has a step, in whose place the
+/// plan has room for one more.
 pub fn is_from_document(operand: &Operand) -> bool
-    ensures { OnTrue result (IsFromDocument (operand_of operand.now)) }
+    ensures { IsTrue result ↔ IsFromDocument (operand_of operand.now) }
 {
     match operand {
         Operand::Path(path) => path.is_absolute && !path.steps.as_slice().is_empty(),

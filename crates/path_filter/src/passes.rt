@@ -102,6 +102,7 @@ pub fn add_from_child(
 {
     let mut i = asked.next(0, plan.len());
     while i < plan.len() {
+        // A stage refers to those before it, all of whose paths from the document are known.
         let context = Context {
             plan: &plan[..i],
             known,

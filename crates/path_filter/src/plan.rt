@@ -1,4 +1,4 @@
-//! A filter laid out so that one visit of each element serves all its paths.
+//! A filter laid out so that one visit of each element serves all paths that are asked there.
 
 use filter_text::{Axis, Comparison, Operand, Part, Test};
 use sqlite_items::{Boxed, Items};
@@ -34,7 +34,7 @@ pub enum Check {
     Compare(Side, Comparison, Side),
 }
 
-/// One side of a comparison, with a check in place of the conditions of each step of its path, in their order.
+/// One side of a comparison. For each step of its path, in their order, a guard stands for the step's conditions.
 #[cycle(plan)]
 #[derive(Drop)]
 pub struct Side {

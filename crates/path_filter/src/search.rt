@@ -16,7 +16,7 @@ use crate::context::Context;
 use crate::found::found_from;
 use crate::plan::Check;
 use crate::positions::Positions;
-use crate::steps::{meets, names_attributes, stays};
+use crate::steps::{is_nowhere, meets, names_attributes, staying};
 use crate::visit::{ask_check, check_holds};
 use crate::wanted::{Found, Wanted};
 use filter_text::{Path, Step};
@@ -67,6 +67,9 @@ fn search(
     requires sound { IsSound wanted.now context.now }
     ensures { IsTrue result ↔ SearchFinds steps.now (Has reached.now) context.now.root.now at.now wanted.now }
 {
+    if is_nowhere(steps, reached) {
+        return false;
+    }
     if reached.has(steps.len()) && suits(wanted, context, Found::Element(at)) {
         return true;
     }
@@ -87,7 +90,7 @@ fn search(
     false
 }
 
-/// The positions that are reached at a child of an element at which these are.
+/// The positions that are reached at this child of an element at which these are.
 #[cycle(evaluate)]
 pub fn advance(
     steps: &[Step],
@@ -102,21 +105,16 @@ pub fn advance(
     requires small { steps_in_steps (steps_of steps.now) ≤ 512 }
     ensures { (j : ℕ) → Has result j ↔ Next steps.now (Has reached.now) context.now.root.now at.now j }
 {
-    let mut next = Positions::none();
+    let mut next = staying(steps, reached);
     for (i, step) in steps.iter().enumerate() {
-        if reached.has(i) {
-            if stays(step) {
-                next.add(i);
-            }
-            if goes(step, &guards[i], context, at) {
-                next.add(i + 1);
-            }
+        if reached.has(i) && !next.has(i + 1) && goes(step, &guards[i], context, at) {
+            next.add(i + 1);
         }
     }
     next
 }
 
-/// Whether the step goes to the element. The guard stands for its conditions.
+/// Whether the step goes to the element. The guard stands for its conditions, and isn't tried where there are none.
 #[cycle(evaluate)]
 fn goes(step: &Step, guard: &Check, context: &Context<'_>, at: &Element) -> bool
     requires ready { IsReady context.now }
@@ -131,7 +129,8 @@ fn goes(step: &Step, guard: &Check, context: &Context<'_>, at: &Element) -> bool
     step.conditions.as_slice().is_empty() || admits(guard, context, at)
 }
 
-/// Whether the check holds at the element, by one visit of what is below it.
+/// Whether the check holds at the element, by one visit of what is below it, which ends where all that the check asks
+/// is found.
 #[cycle(evaluate)]
 fn admits(guard: &Check, context: &Context<'_>, at: &Element) -> bool
     requires ready { IsReady context.now }

@@ -1,4 +1,4 @@
-//! One visit of each element finds what all positions of a plan find.
+//! What one visit of an element asks, and which checks hold there.
 
 ghost use Rattle.std.specs.Prelude.{◌≡◌, ◌↔◌, ◌≤◌, ◌<◌, ℕ, IsTrue, map};
 ghost use Rattle.voe_tree.specs.Shape.{depth};
@@ -9,22 +9,33 @@ ghost use Rattle.path_filter.specs.Plan.{Arrives, Asks, CheckAsks, CheckHolds, C
 ghost use Rattle.path_filter.specs.Positions.{Has};
 ghost use Rattle.path_filter.specs.Wanted.{text_found};
 
-use crate::compare::{are_related, compares, differs};
+use crate::compare::{are_related, compares};
 use crate::context::Context;
 use crate::plan::{Check, Next, Sought, Stage};
 use crate::positions::Positions;
 use crate::steps::meets;
 use crate::wanted::Found;
-use filter_text::{Axis, Comparison, Part};
+use filter_text::{Axis, Part};
 use voe_tree::{Element, Node};
 
 /// Whether the string is what the end of a path looks for.
-fn suits(sought: &Sought, found: Found<'_>) -> bool
+fn is_sought(sought: &Sought, found: Found<'_>) -> bool
     ensures { IsTrue result ↔ Suited sought.now (text_found found.entry) }
 {
     match sought {
         Sought::Anything => true,
         Sought::Related(how, text) => are_related(found, *how, Found::Text(text.as_str())),
+    }
+}
+
+/// Whether the path goes on, and finds nothing from here.
+fn is_cut(next: &Next, here: &Positions) -> bool
+    requires { NextIsSmall next.now }
+    ensures { IsTrue result → (at : Element) → GoesOn (Has here.now) at next.now → ⊥ }
+{
+    match next {
+        Next::On(position) => !here.has(*position),
+        Next::Ends(_) => false,
     }
 }
 
@@ -35,7 +46,7 @@ fn goes_on(next: &Next, here: &Positions, at: &Element) -> bool
 {
     match next {
         Next::On(position) => here.has(*position),
-        Next::Ends(sought) => suits(sought, Found::Element(at)),
+        Next::Ends(sought) => is_sought(sought, Found::Element(at)),
     }
 }
 
@@ -54,10 +65,7 @@ pub fn check_holds(check: &Check, here: &Positions, context: &Context<'_>, at: &
         Check::Not(inner) => !check_holds(inner.get(), here, context, at),
         Check::Here(position) => here.has(*position),
         Check::Anywhere(position) => context.known.has(*position),
-        Check::Compare(left, how, right) => match how {
-            Comparison::Equal => compares(left, how, right, context, at),
-            Comparison::Differs => differs(left, right, context, at),
-        },
+        Check::Compare(left, how, right) => compares(left, *how, right, context, at),
     }
 }
 
@@ -121,6 +129,9 @@ fn arrives(stage: &Stage, here: &Positions, context: &Context<'_>, at: &Element)
     requires refers { StageRefers (newest context.now.plan.now) stage.now }
     ensures { IsTrue result ↔ Arrives (Has here.now) (Has context.now.known.now) context.now.root.now at.now stage.now }
 {
+    if is_cut(&stage.next, here) {
+        return false;
+    }
     names_elements(stage)
         && meets(&stage.test, at.space.as_str(), at.local.as_str())
         && each_holds(stage.checks.as_slice(), here, context, at)
@@ -152,7 +163,7 @@ fn ends_at(next: &Next, value: &str) -> bool
 {
     match next {
         Next::On(_) => false,
-        Next::Ends(sought) => suits(sought, Found::Text(value)),
+        Next::Ends(sought) => is_sought(sought, Found::Text(value)),
     }
 }
 

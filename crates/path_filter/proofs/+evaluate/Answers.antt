@@ -1,17 +1,16 @@
-use Rattle.std.proofs.Common.{◌≡◌, ◌↔◌, ◌⊎◌, inl, inr, Some, true, ◌+◌, ◌*◌, ℕ, suc, length, eqb-true, ◌≢◌, take, [], IsTrue, ◌≤◌, arith, refl, sym, ◌∙◌, ap, subst}
-use Rattle.filter_text.specs.Filter.{arrived, path, differs}
-use Rattle.filter_text.specs.View.{comparison_of, operand_of, path_of, steps_of, test_of}
+use Rattle.std.proofs.Common.{◌≡◌, ◌↔◌, inl, inr, Some, true, ◌+◌, ◌*◌, ℕ, suc, length, eqb-true, ◌≢◌, take, [], ◌≤◌, arith, refl, sym, ◌∙◌, ap, subst}
+use Rattle.filter_text.specs.Filter.{arrived, path}
+use Rattle.filter_text.specs.View.{path_of, steps_of, test_of}
 use Rattle.voe_tree.specs.Contents.{elements_in, string_of}
 use Rattle.voe_tree.specs.Shape.{depth}
-use Rattle.path_filter.specs.Evaluate.{Goes, Stays, SearchFinds, OwnAttribute, PathFindsWanted, Next, NextBelow}
-use Rattle.path_filter.specs.Plan.{CheckHolds, FromChild, check_of, compared, guards_of, newest, side, size_of_check, size_of_checks, size_of_guards, stage_checks, weight}
+use Rattle.path_filter.specs.Evaluate.{Goes, SearchFinds, OwnAttribute, PathFindsWanted, Next, NextBelow}
+use Rattle.path_filter.specs.Plan.{FromChild, check_of, newest, size_of_check, size_of_checks, size_of_guards, stage_checks, weight}
 use Rattle.path_filter.specs.Positions.{Has}
 use Rattle.path_filter.specs.Search.{OneOf, after}
 use Rattle.path_filter.specs.Wanted.{IsLike, IsShallow, Suits, anything, exactly, size_of_wanted, text_found, unlike}
 use Rattle.path_filter.specs.declared.wanted.Found.TheVariants as places
-use Rattle.path_filter.proofs.CheckViews.{compared-out}
 use Rattle.path_filter.proofs.DifferLaws.{if_none, if_some, none_so, others_decide, owns_unlike, search_unlike}
-use Rattle.path_filter.proofs.EvaluateSteps.{read, one-next, one-past, element-next, element-split, text-next, element-one, search-same, Attributes, own-in, own-out, added, not_added, advanced, skipped, contra, meets-as, below-more, child_falls, no_steps, past-end, rooted, rooted_in, rooted_out}
+use Rattle.path_filter.proofs.EvaluateSteps.{read, one-next, one-past, element-next, element-split, text-next, element-one, search-same, Attributes, own-in, own-out, added, not_added, advanced, skipped, there_already, contra, meets-as, below-more, child_falls, no_steps, past-end, rooted, rooted_in, rooted_out}
 use Rattle.path_filter.proofs.GuardLaws.{guard_at, guard_holds, guards_length, goes_in, goes_out}
 use Rattle.path_filter.proofs.HasLaws.{has_or_not}
 use Rattle.path_filter.proofs.MarkLaws.{small_at, skip_marked, one_marked, all_marked, within}
@@ -21,16 +20,62 @@ use Rattle.path_filter.proofs.PrefixLaws.{front_knows, front_length, front_weigh
 use Rattle.path_filter.proofs.Ranks.{falls-size, falls-within, falls-work, falls-work-within}
 use Rattle.path_filter.proofs.SearchLaws.{one-at}
 use Rattle.path_filter.proofs.Texts.{of_document}
-use Rattle.path_filter.proofs.+evaluate.Goals.{search::advance-then-has+then-goes, search::advance-then-stays, search::advance-else-stays, search::advance-then-has+else-goes, search::advance-else-has, search::own_attribute-else-meets-via-then-meets+else-suits, search::own_attribute-else-meets-via-else-meets, search::own_attributes-else-has-via-then-has+else-own_attribute, search::own_attributes-else-has-via-else-has, search::search-else-has-via-then-has+else-suits, search::search-else-has-via-else-has, search::search-in-Element+else-search, search::search-in-Text, first::first_from-in-Element+in_default-first_from, first::first_from-in-Text, alike::all_like_from-in-Element+in_ok-last-in-Element, alike::all_like_from-in-Text, found::found_from-in-Element+else-is_done, found::found_from-in-Text}
+use Rattle.path_filter.proofs.+evaluate.Goals.{search::advance-then-has+then-not-has+then-goes, search::advance-else-has, search::advance-else-has-via-then-has+then-not-has+else-goes, search::advance-else-has-via-then-has+else-not-has, search::advance-else-has-via-else-has, search::own_attribute-else-meets-via-then-meets+else-suits, search::own_attribute-else-meets-via-else-meets, search::own_attributes-else-has-via-then-has+else-own_attribute, search::own_attributes-else-has-via-else-has, search::search-else-has-via-then-has+else-suits, search::search-else-has-via-else-has, search::search-in-Element+else-search, search::search-in-Text, first::first_from-in-Element+in_default-first_from, first::first_from-in-Text, alike::all_like_from-in-Element+in_ok-last-in-Element, alike::all_like_from-in-Text, found::found_from-in-Element+else-is_done, found::found_from-in-Text}
 use Rattle.path_filter.proofs.+evaluate.Goals as goal
 
-pub visit::check_holds-returns-in-Differs : goal.visit::check_holds-returns-in-Differs
-visit::check_holds-returns-in-Differs t c =
-    let l = c.in-Compare.left in
-    let r = c.in-Compare.right in
-    let opened : check_of c.args.check.now ≡ compared (side (operand_of l.operand) (guards_of l)) differs (side (operand_of r.operand) (guards_of r)) =
-    ap check_of c.in-Compare.is ∙ compared-out l c.in-Compare.how r ∙ ap (λ h. compared (side (operand_of l.operand) (guards_of l)) (comparison_of h) (side (operand_of r.operand) (guards_of r))) c.in-Differs.is in
-    subst (λ k. IsTrue c.differs.result ↔ CheckHolds (Has c.args.here.now) (Has c.args.context.now.known.now) c.args.context.now.root.now c.args.at.now k) (sym opened) c.differs.ensures
+pub search::advance-has-requires : goal.search::advance-has-requires
+search::advance-has-requires t c = omega (arith, fewer c.args.steps.now, c.requires.small, c.loop-i-test.true)
+
+pub search::advance-has-requires-then-has : goal.search::advance-has-requires-then-has
+search::advance-has-requires-then-has t c = omega (arith, fewer c.args.steps.now, c.requires.small, c.loop-i-test.true)
+
+pub search::advance-add-requires : goal.search::advance-add-requires
+search::advance-add-requires t c = omega (arith, fewer c.args.steps.now, c.requires.small, c.loop-i-test.true)
+
+pub search::advance-bounds-guards-i : goal.search::advance-bounds-guards-i
+search::advance-bounds-guards-i t c = omega (arith, guards_length (newest c.args.context.now.plan.now) c.args.steps.now c.args.guards.now c.requires.guarded, c.loop-i-test.true)
+
+pub search::advance-offset_bounds-guards-i : goal.search::advance-offset_bounds-guards-i
+search::advance-offset_bounds-guards-i t c = omega (arith, fewer c.args.steps.now, c.requires.small, c.loop-i-test.true)
+
+pub search::advance-goes-requires : goal.search::advance-goes-requires
+search::advance-goes-requires t c =
+    let plan = newest c.args.context.now.plan.now in
+    let steps = c.args.steps.now in
+    let guards = c.args.guards.now in
+    let i = c.loop-i.i in
+    let at = read steps i c.index-steps-i.result c.loop-i-test.true c.index-steps-i.is in
+    let guard = c.index-guards-i.result in
+    let there = read guards i guard (omega (arith, guards_length plan steps guards c.requires.guarded, c.loop-i-test.true)) c.index-guards-i.is in
+    let g = guard_at plan steps guards i c.index-steps-i.result guard c.requires.guarded at there in
+    (omega (arith, c.decreases, falls-work c.args.context.now (size_of_check (check_of guard) + 1) (size_of_guards guards) 1 0 g.smaller (omega arith)), (c.requires.ready, (c.requires.inside, (g.refers, g.stands))))
+
+pub search::advance-loop-i-preserved : goal.search::advance-loop-i-preserved
+search::advance-loop-i-preserved t c =
+    let ss = c.args.steps.now in
+    let R = Has c.args.reached.now in
+    let Old = Has c.loop-i.next in
+    let root = c.args.context.now.root.now in
+    let e = c.args.at.now in
+    let i = c.loop-i.i in
+    let here = after-at ss i c.index-steps-i.result (read ss i c.index-steps-i.result c.loop-i-test.true c.index-steps-i.is) in
+    let rest = after (suc i) (steps_of ss) in
+    let G = Goes (after i (steps_of ss)) root e in
+    elim c.if-has.branch [
+      | search::advance-then-has+then-not-has+then-goes w ↦ subst (λ p. (j : ℕ) → Has p j ↔ NextBelow (i + 1) ss R root e j) (sym w.next-is)
+          (advanced ss R Old _ root e i (c.has.ensures.0 w.if-has.true) c.loop-i.invariant
+          (added Old _ (i + 1) G w.add.ensures (subst (λ s. Goes s root e) (sym here) ((w.goes.ensures rest).0 w.if-goes.true))))
+      | search::advance-else-has w ↦ subst (λ p. (j : ℕ) → Has p j ↔ NextBelow (i + 1) ss R root e j) (sym w.next-is)
+          (elim w.else-has.branch [
+            | search::advance-else-has-via-then-has+then-not-has+else-goes v ↦ advanced ss R Old Old root e i (c.has.ensures.0 v.if-has.true) c.loop-i.invariant
+                (not_added Old (i + 1) G (λ goes. contra _ ((v.goes.ensures rest).1 (subst (λ s. Goes s root e) here goes)) v.if-goes.false))
+            | search::advance-else-has-via-then-has+else-not-has v ↦ advanced ss R Old Old root e i (c.has.ensures.0 v.if-has.true) c.loop-i.invariant (there_already Old (i + 1) G (v.has-then-has.ensures.0 v.if-not-has.false))
+            | search::advance-else-has-via-else-has v ↦ skipped ss R Old root e i (λ reached. contra _ (c.has.ensures.1 reached) v.if-has.false) c.loop-i.invariant
+          ])
+    ]
+
+pub visit::arrives-returns-then-is_cut : goal.visit::arrives-returns-then-is_cut
+visit::arrives-returns-then-is_cut t c = ((λ claim. absurd (contra _ claim refl)), (λ arrives. absurd (c.is_cut.ensures c.if-is_cut.true c.args.at.now arrives.3)))
 
 pub passes::add_from_child-add_one-requires : goal.passes::add_from_child-add_one-requires
 passes::add_from_child-add_one-requires t c =
@@ -93,24 +138,6 @@ search::goes-returns-else-is_empty t c =
       (λ goes. c.admits.ensures.1 (stands.1 (goes_in x rest root c.args.at.now goes).2)),
     )
 
-pub search::advance-bounds-guards-i : goal.search::advance-bounds-guards-i
-search::advance-bounds-guards-i t c = omega (arith, guards_length (newest c.args.context.now.plan.now) c.args.steps.now c.args.guards.now c.requires.guarded, c.loop-i-test.true)
-
-pub search::advance-offset_bounds-guards-i : goal.search::advance-offset_bounds-guards-i
-search::advance-offset_bounds-guards-i t c = omega (arith, fewer c.args.steps.now, c.requires.small, c.loop-i-test.true)
-
-pub search::advance-goes-requires : goal.search::advance-goes-requires
-search::advance-goes-requires t c =
-    let plan = newest c.args.context.now.plan.now in
-    let steps = c.args.steps.now in
-    let guards = c.args.guards.now in
-    let i = c.loop-i.i in
-    let at = read steps i c.index-steps-i.result c.loop-i-test.true c.index-steps-i.is in
-    let guard = c.index-guards-i.result in
-    let there = read guards i guard (omega (arith, guards_length plan steps guards c.requires.guarded, c.loop-i-test.true)) c.index-guards-i.is in
-    let g = guard_at plan steps guards i c.index-steps-i.result guard c.requires.guarded at there in
-    (omega (arith, c.decreases, falls-work c.args.context.now (size_of_check (check_of guard) + 1) (size_of_guards guards) 1 0 g.smaller (omega arith)), (c.requires.ready, (c.requires.inside, (g.refers, g.stands))))
-
 pub first::first_from-advance-next-requires : goal.first::first_from-advance-next-requires
 first::first_from-advance-next-requires t c =
     let deeper = child_falls c.args.at.now c.as_slice-child-items.result.now c.loop-child.child-index c.child-item.result c.in-Element.inner c.loop-child-test.true c.child-item.is c.in-Element.is c.as_slice-child-items.ensures in
@@ -146,46 +173,6 @@ search::search-search-requires t c =
       omega (arith, c.decreases, falls-work-within c.args.context.now size size (depth c.in-Element.inner + 1) (depth c.args.at.now + 1) (omega arith) (omega (arith, deeper))),
       (c.requires.ready, (omega (arith, deeper, inside), (c.requires.guarded, (c.requires.small, c.requires.sound)))),
     )
-
-pub search::advance-has-requires : goal.search::advance-has-requires
-search::advance-has-requires t c = omega (arith, fewer c.args.steps.now, c.requires.small, c.loop-i-test.true)
-
-pub search::advance-add-requires : goal.search::advance-add-requires
-search::advance-add-requires t c = omega (arith, fewer c.args.steps.now, c.requires.small, c.loop-i-test.true)
-
-pub search::advance-add-requires-then-goes : goal.search::advance-add-requires-then-goes
-search::advance-add-requires-then-goes t c = omega (arith, fewer c.args.steps.now, c.requires.small, c.loop-i-test.true)
-
-pub search::advance-loop-i-preserved : goal.search::advance-loop-i-preserved
-search::advance-loop-i-preserved t c =
-    let at = read c.args.steps.now c.loop-i.i c.index-steps-i.result c.loop-i-test.true c.index-steps-i.is in
-    let here = after-at c.args.steps.now c.loop-i.i c.index-steps-i.result at in
-    let rest = after (suc c.loop-i.i) (steps_of c.args.steps.now) in
-    elim c.if-has.branch [
-      | search::advance-then-has+then-goes w ↦
-          advanced c.args.steps.now (Has c.args.reached.now) (Has c.loop-i.next) (Has w.if-stays.next) (Has c.if-has.next) c.args.context.now.root.now c.args.at.now c.loop-i.i (c.has.ensures.0 w.if-has.true) c.loop-i.invariant
-          (elim w.if-stays.branch [
-            | search::advance-then-stays v ↦ subst (λ p. (j : ℕ) → Has p j ↔ (Has c.loop-i.next j ⊎ ((j ≡ c.loop-i.i) × Stays (after c.loop-i.i (steps_of c.args.steps.now))))) (sym v.next-is)
-                (added (Has c.loop-i.next) _ c.loop-i.i (Stays (after c.loop-i.i (steps_of c.args.steps.now))) v.add.ensures (subst Stays (sym here) ((w.stays.ensures rest).0 v.if-stays.true)))
-            | search::advance-else-stays v ↦ subst (λ p. (j : ℕ) → Has p j ↔ (Has c.loop-i.next j ⊎ ((j ≡ c.loop-i.i) × Stays (after c.loop-i.i (steps_of c.args.steps.now))))) (sym v.next-is)
-                (not_added (Has c.loop-i.next) c.loop-i.i (Stays (after c.loop-i.i (steps_of c.args.steps.now))) (λ s. contra _ ((w.stays.ensures rest).1 (subst Stays here s)) v.if-stays.false))
-          ])
-          (subst (λ p. (j : ℕ) → Has p j ↔ (Has w.if-stays.next j ⊎ ((j ≡ c.loop-i.i + 1) × Goes (after c.loop-i.i (steps_of c.args.steps.now)) c.args.context.now.root.now c.args.at.now))) (sym w.next-is)
-          (added (Has w.if-stays.next) _ (c.loop-i.i + 1) (Goes (after c.loop-i.i (steps_of c.args.steps.now)) c.args.context.now.root.now c.args.at.now) w.add-then-goes.ensures (subst (λ s. Goes s c.args.context.now.root.now c.args.at.now) (sym here) ((w.goes.ensures rest).0 w.if-goes.true))))
-      | search::advance-then-has+else-goes w ↦
-          advanced c.args.steps.now (Has c.args.reached.now) (Has c.loop-i.next) (Has w.if-stays.next) (Has c.if-has.next) c.args.context.now.root.now c.args.at.now c.loop-i.i (c.has.ensures.0 w.if-has.true) c.loop-i.invariant
-          (elim w.if-stays.branch [
-            | search::advance-then-stays v ↦ subst (λ p. (j : ℕ) → Has p j ↔ (Has c.loop-i.next j ⊎ ((j ≡ c.loop-i.i) × Stays (after c.loop-i.i (steps_of c.args.steps.now))))) (sym v.next-is)
-                (added (Has c.loop-i.next) _ c.loop-i.i (Stays (after c.loop-i.i (steps_of c.args.steps.now))) v.add.ensures (subst Stays (sym here) ((w.stays.ensures rest).0 v.if-stays.true)))
-            | search::advance-else-stays v ↦ subst (λ p. (j : ℕ) → Has p j ↔ (Has c.loop-i.next j ⊎ ((j ≡ c.loop-i.i) × Stays (after c.loop-i.i (steps_of c.args.steps.now))))) (sym v.next-is)
-                (not_added (Has c.loop-i.next) c.loop-i.i (Stays (after c.loop-i.i (steps_of c.args.steps.now))) (λ s. contra _ ((w.stays.ensures rest).1 (subst Stays here s)) v.if-stays.false))
-          ])
-          (subst (λ p. (j : ℕ) → Has p j ↔ (Has w.if-stays.next j ⊎ ((j ≡ c.loop-i.i + 1) × Goes (after c.loop-i.i (steps_of c.args.steps.now)) c.args.context.now.root.now c.args.at.now))) (sym w.next-is)
-          (not_added (Has w.if-stays.next) (c.loop-i.i + 1) (Goes (after c.loop-i.i (steps_of c.args.steps.now)) c.args.context.now.root.now c.args.at.now) (λ g. contra _ ((w.goes.ensures rest).1 (subst (λ s. Goes s c.args.context.now.root.now c.args.at.now) here g)) w.if-goes.false)))
-      | search::advance-else-has w ↦
-          subst (λ p. (j : ℕ) → Has p j ↔ NextBelow (c.loop-i.i + 1) c.args.steps.now (Has c.args.reached.now) c.args.context.now.root.now c.args.at.now j) (sym w.next-is)
-          (skipped c.args.steps.now (Has c.args.reached.now) (Has c.loop-i.next) c.args.context.now.root.now c.args.at.now c.loop-i.i (λ r. contra _ (c.has.ensures.1 r) w.if-has.false) c.loop-i.invariant)
-    ]
 
 pub search::finds-returns : goal.search::finds-returns
 search::finds-returns t c = (

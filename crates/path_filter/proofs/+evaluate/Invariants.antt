@@ -46,9 +46,6 @@ decreases-found::visit_child l = rank (weight l.plan.now) (2 * depth l.child.now
 abbrev pub decreases-compare::compares : goal.decreases-compare::compares
 decreases-compare::compares l = work l.context.now (size_of_guards l.left.now.guards + size_of_guards l.right.now.guards + 6) 0
 
-abbrev pub decreases-compare::differs : goal.decreases-compare::differs
-decreases-compare::differs l = work l.context.now (size_of_guards l.left.now.guards + size_of_guards l.right.now.guards + 6) 1
-
 abbrev pub decreases-compare::differ : goal.decreases-compare::differ
 decreases-compare::differ l = work l.context.now (size_of_guards l.guards.now + size_of_guards l.other_guards.now + 5) 0
 

@@ -53,7 +53,7 @@ plan_comparison-returns-then-is_from_document-2-clause-grows t c =
     let middle = newest c.plan_side.new.plan in
     let sides = newest c.plan_side-2.new.plan in
     if_ok (λ _. Grows sides (newest c.plan_once.new.plan) 1) (λ _. Grows old (newest c.plan_once.new.plan) _) c.plan_once.result
-    (λ _ grown. grows_le old (newest c.plan_once.new.plan) _ _ (omega (arith, inner_operand_less (operand_of c.args.left.now) c.if-is_from_document.ensures, inner_operand_less (operand_of c.args.right.now) c.if-is_from_document-2.ensures))
+    (λ _ grown. grows_le old (newest c.plan_once.new.plan) _ _ (omega (arith, inner_operand_less (operand_of c.args.left.now) (c.is_from_document.ensures.0 c.if-is_from_document.true), inner_operand_less (operand_of c.args.right.now) (c.is_from_document-then-is_from_document.ensures.0 c.if-is_from_document-2.true)))
     (grows_then old sides (newest c.plan_once.new.plan) _ 1 (grows_then old middle sides _ _ c.in_ok-one.ensures.grows c.in_ok-other.ensures.grows) grown)) c.plan_once.ensures.grows
 
 pub plan_comparison-returns-then-is_from_document-2-clause-means : goal.plan_comparison-returns-then-is_from_document-2-clause-means
@@ -61,7 +61,7 @@ plan_comparison-returns-then-is_from_document-2-clause-means t c =
     let a = operand_of c.args.left.now in
     let b = operand_of c.args.right.now in
     if_ok _ (λ k. Means (newest c.plan_once.new.plan) (check_of k) (compare a (comparison_of c.args.how) b)) c.plan_once.result
-    (λ k means. means (compare a (comparison_of c.args.how) b) (same_everywhere a b (comparison_of c.args.how) c.if-is_from_document.ensures c.if-is_from_document-2.ensures)
+    (λ k means. means (compare a (comparison_of c.args.how) b) (same_everywhere a b (comparison_of c.args.how) (c.is_from_document.ensures.0 c.if-is_from_document.true) (c.is_from_document-then-is_from_document.ensures.0 c.if-is_from_document-2.true))
     (comparison_means (newest c.plan_side.new.plan) (newest c.plan_side-2.new.plan) _ c.in_ok-one.one c.in_ok-other.other c.args.left.now c.args.right.now c.args.how c.in_ok-one.ensures.same c.in_ok-other.ensures.same
     c.in_ok-one.ensures.guarded c.in_ok-other.ensures.grows c.in_ok-other.ensures.guarded c.requires.small)) c.plan_once.ensures.means
 
