@@ -34,7 +34,7 @@ const GUARDED: &str =
 /// Elements whose names are words of filters.
 const WORDS: &str = "<and><or/><not/></and>";
 
-fn tree_of(rt: &impl Abort, alloc: Global, document: &str) -> Tree {
+pub fn tree_of(rt: &impl Abort, alloc: Global, document: &str) -> Tree {
     let bytes = document.as_bytes();
     assert!(rt; bytes.len() <= 1_048_576);
     match read_tree(alloc, bytes) {

@@ -102,7 +102,7 @@ fn refuses_conditions(rt: HostRuntime) -> Result<(), Fail> {
 }
 
 /// A text made of a part again and again.
-fn repeated(alloc: Global, front: &str, part: &str, count: usize) -> Result<String, Fail> {
+pub fn repeated(alloc: Global, front: &str, part: &str, count: usize) -> Result<String, Fail> {
     let mut text = String::from_str(alloc, front)?;
     for _ in 0..count {
         text.push_str(part)?;
