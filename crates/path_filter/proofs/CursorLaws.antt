@@ -9,7 +9,7 @@ use Rattle.voe_tree.specs.declared.element.Node.TheFolds.{fold-roll-Node}
 use Rattle.voe_tree.specs.declared.element.Node.TheVariants as tree
 use Rattle.filter_text.specs.Filter.{Text}
 use Rattle.path_filter.specs.Cursors.{Levels, nodes_at, texts_of, levels_text, LevelsFit, total, node_steps, element_steps, steps_in, levels_steps}
-use Rattle.path_filter.proofs.EvaluateSteps.{read}
+use Rattle.path_filter.proofs.SearchSteps.{read}
 use Rattle.path_filter.proofs.Texts.{text_out, of-element, of-text}
 use Rattle.path_filter.proofs.Ranks.{depth_out, height-element}
 

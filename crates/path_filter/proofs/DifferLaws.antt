@@ -7,7 +7,7 @@ use Rattle.filter_text.specs.Filter.{Path, Steps}
 use Rattle.filter_text.specs.declared.filter.Step.{Step}
 use Rattle.filter_text.specs.View.{steps_of}
 use Rattle.path_filter.specs.Search.{after}
-use Rattle.path_filter.specs.Evaluate.{OwnAttribute, OwnFinds, PathFindsWanted, PathsDiffer, SearchFinds}
+use Rattle.path_filter.specs.SearchParts.{OwnAttribute, OwnFinds, PathFindsWanted, PathsDiffer, SearchFinds}
 use Rattle.path_filter.specs.Wanted.{IsLike, anything, text_found, unlike}
 use Rattle.path_filter.specs.declared.wanted.Found.{Found}
 

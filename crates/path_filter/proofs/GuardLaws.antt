@@ -5,15 +5,16 @@ use Rattle.voe_tree.specs.declared.element.Element.{Element}
 use Rattle.filter_text.specs.Filter.{Part, element, attribute, Steps, step}
 use Rattle.filter_text.specs.View.{axis_of, part_of, test_of, conditions_of, condition_of, front_of, steps_of}
 use Rattle.filter_text.specs.declared.filter.Step.{Step}
-use Rattle.path_filter.specs.Evaluate.{Goes}
+use Rattle.path_filter.specs.SearchParts.{Goes}
 use Rattle.path_filter.specs.Meaning.{MeetsName}
 use Rattle.path_filter.specs.Places.{document}
-use Rattle.path_filter.specs.Plan.{Check, Checks, no_more, more, AreGuards, At, CheckAsks, CheckHolds, CheckRefers, IsOfDocument, StandsFor, check_of, checks_of, newest, size_of_check, size_of_checks, size_of_guards}
+use Rattle.path_filter.specs.Plan.{Check, Checks, no_more, more, AreGuards, At, CheckAsks, CheckHolds, CheckRefers, IsOfDocument, StandsFor, check_of, checks_of, newest}
 use Rattle.path_filter.specs.Search.{Each}
 use Rattle.path_filter.specs.declared.plan.Check.{Check as CodeCheck}
 use Rattle.path_filter.specs.declared.plan.Stage.{Stage}
 use Rattle.path_filter.proofs.PlanLaws.{both_asks, check_same, get, newest_length, refers_sees}
 use Rattle.path_filter.proofs.Views.{front-out}
+use Rattle.path_filter.proofs.Measures.{size_of_check, size_of_checks, size_of_guards}
 
 -- the guards of a step and others
 opened : (plan : List Stage) (x : Step) (ss : Steps) (ks : Checks) → AreGuards plan (front_of x ss) ks

@@ -1,9 +1,12 @@
+pub mod Measures
+pub mod Marks
+pub mod Known
 pub mod Bits
 pub mod Views
 pub mod SearchLaws
 pub mod PositionLaws
 pub mod Ranks
-pub mod EvaluateSteps
+pub mod SearchSteps
 pub mod PlaceLaws
 pub mod Texts
 pub mod SetLaws

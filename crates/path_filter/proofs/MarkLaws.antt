@@ -1,10 +1,10 @@
 -- Going over positions, one at a time.
 use Rattle.std.proofs.Common.{◌≡◌, ◌<◌, ◌≤◌, ◌+◌, ◌⊎◌, ◌↔◌, inl, inr, ℕ, zero, suc, List, [], ◌∷◌, Some, length, sym, subst, arith}
 use Rattle.std.specs.List.{slice_get}
-use Rattle.path_filter.specs.Marks.{MarkedBelow}
+use Rattle.path_filter.proofs.Marks.{MarkedBelow}
 use Rattle.path_filter.specs.Plan.{StageIsSmall, StagesAreSmall}
 use Rattle.path_filter.specs.declared.plan.Stage.{Stage}
-use Rattle.path_filter.proofs.EvaluateSteps.{below-more}
+use Rattle.path_filter.proofs.SearchSteps.{below-more}
 use Rattle.path_filter.proofs.PlaceLaws.{same_some}
 
 pub small_at : (plan : List Stage) (i : ℕ) (x : Stage) → StagesAreSmall plan → slice_get plan i ≡ Some x → StageIsSmall x

@@ -13,7 +13,7 @@ use Rattle.filter_text.specs.Size.{steps_in_steps}
 use Rattle.filter_text.specs.View.{steps_of, front_of}
 use Rattle.path_filter.specs.Search.{OneOf, Finds, after}
 use Rattle.path_filter.specs.Wanted.{Suits}
-use Rattle.path_filter.specs.Evaluate.{SearchFinds, OwnFinds, Next}
+use Rattle.path_filter.specs.SearchParts.{SearchFinds, OwnFinds, Next}
 use Rattle.path_filter.specs.declared.wanted.Wanted.{Wanted}
 use Rattle.filter_text.specs.declared.filter.Step.{Step}
 use Rattle.path_filter.proofs.Views.{front-out}

@@ -3,16 +3,17 @@ use Rattle.std.proofs.Common.{◌≡◌, ◌<◌, ◌≤◌, ◌+◌, ◌⊎◌,
 use Rattle.std.proofs.lemmas.List.{take-append-drop, length-take-le}
 use Rattle.std.specs.List.{slice_get}
 use Rattle.voe_tree.specs.declared.element.Element.{Element}
-use Rattle.path_filter.specs.Known.{KnownBelow}
+use Rattle.path_filter.proofs.Known.{KnownBelow}
 use Rattle.path_filter.specs.Places.{document}
-use Rattle.path_filter.specs.Plan.{Check, Checks, any_of, all_of, not_so, here, anywhere, compared, no_more, more, At, newest, newest_onto, stage_at, stage_checks, IsOfDocument, IsMade, StagesAreSmall, Knows, CheckRefers, ChecksRefer, NextRefers, CheckIsSmall, ChecksAreSmall, NextIsSmall, StageRefers, size_of_checks, weight}
+use Rattle.path_filter.specs.Plan.{Check, Checks, any_of, all_of, not_so, here, anywhere, compared, no_more, more, At, newest, newest_onto, stage_at, stage_checks, IsOfDocument, IsMade, StagesAreSmall, Knows, CheckRefers, ChecksRefer, NextRefers, CheckIsSmall, ChecksAreSmall, NextIsSmall, StageRefers}
 use Rattle.path_filter.specs.Planned.{LastOfDocument}
 use Rattle.path_filter.specs.declared.plan.Next.{Next}
 use Rattle.path_filter.specs.declared.plan.Next.TheVariants as next
 use Rattle.path_filter.specs.declared.plan.Stage.{Stage}
-use Rattle.path_filter.proofs.EvaluateSteps.{below-more, from-place}
+use Rattle.path_filter.proofs.SearchSteps.{below-more, from-place}
 use Rattle.path_filter.proofs.PlaceLaws.{same_some}
 use Rattle.path_filter.proofs.PlanLaws.{at_onto, stage_onto, stage_get, newest_length, newest_more, document_within}
+use Rattle.path_filter.proofs.Measures.{size_of_checks, weight}
 
 whole : (plan : List Stage) (n : ℕ) → newest plan ≡ newest_onto (newest (take n plan)) (drop n plan)
 whole plan n = ap newest (sym (take-append-drop n plan)) ∙ newest_more (take n plan) (drop n plan) []

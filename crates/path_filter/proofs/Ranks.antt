@@ -8,10 +8,8 @@ use Rattle.voe_tree.specs.declared.element.Node.TheOpen.{Node-F}
 use Rattle.voe_tree.specs.declared.element.Node.TheFolds.{fold-roll-Node}
 use Rattle.voe_tree.specs.declared.element.Node.TheVariants as tree
 use Rattle.voe_tree.specs.Shape.{depth, greatest, height, node_depth, element_depth}
-use Rattle.path_filter.specs.Contexts.{work}
-use Rattle.path_filter.specs.Plan.{weight}
-use Rattle.path_filter.specs.Search.{rank}
 use Rattle.path_filter.specs.declared.context.Context.{Context}
+use Rattle.path_filter.proofs.Measures.{rank, weight, work}
 
 pub depth_out : (e : Element) → depth e ≡ suc (greatest (map height e.children))
 depth_out e = fold_out-Element ℕ ℕ node_depth element_depth e

@@ -9,7 +9,7 @@ use Rattle.voe_tree.specs.Contents.{elements_in}
 use Rattle.path_filter.specs.Places.{element_below}
 use Rattle.path_filter.specs.Meaning.{MeetsName}
 use Rattle.path_filter.specs.Search.{OneOf, Finds, Each, after}
-use Rattle.path_filter.specs.Evaluate.{Goes, Stays, FindsOwn}
+use Rattle.path_filter.specs.SearchParts.{Goes, Stays, FindsOwn}
 
 pub one-at : {X : Type 0} (P : X → Type 0) (xs : List X) (k : ℕ) (x : X) → slice_get xs k ≡ Some x → P x → OneOf P xs
 one-at P [] k x at p = absurd (let bad : ⊥ = cc in bad)

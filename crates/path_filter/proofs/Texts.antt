@@ -10,7 +10,7 @@ use Rattle.filter_text.specs.Filter.{Text}
 use Rattle.std.specs.List.{concat}
 use Rattle.voe_tree.specs.Contents.{node_text, element_text, string_of, string_in}
 use Rattle.path_filter.specs.Places.{document}
-use Rattle.path_filter.proofs.EvaluateSteps.{from-place, past-end}
+use Rattle.path_filter.proofs.SearchSteps.{from-place, past-end}
 
 abbrev pub texts_of : List Node → Text
 texts_of ns = concat (map string_in ns)

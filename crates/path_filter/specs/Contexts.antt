@@ -1,10 +1,9 @@
 -- What conditions are evaluated in.
-use Rattle.std.specs.Prelude.{◌↔◌, ◌≤◌, ◌+◌, ℕ, length}
+use Rattle.std.specs.Prelude.{◌↔◌, ◌≤◌, ℕ, length}
 use Rattle.voe_tree.specs.Shape.{depth}
 use Rattle.path_filter.specs.Places.{document}
-use Rattle.path_filter.specs.Plan.{At, Check, CheckHolds, IsMade, IsOfDocument, newest, weight}
+use Rattle.path_filter.specs.Plan.{At, Check, CheckHolds, IsMade, IsOfDocument, newest}
 use Rattle.path_filter.specs.Positions.{Has}
-use Rattle.path_filter.specs.Search.{rank}
 use Rattle.voe_tree.specs.declared.element.Element.{Element}
 use Rattle.path_filter.specs.declared.context.Context.{Context}
 
@@ -18,7 +17,3 @@ pub record IsReady (c : Context) : Type 0 where
 -- the check holds by what the plan's positions find
 abbrev pub HoldsAt : Context → Element → Check → Type 0
 HoldsAt c e k = CheckHolds (λ j. At (newest c.plan.now) c.root.now j e) (λ j. At (newest c.plan.now) c.root.now j (document c.root.now)) c.root.now e k
-
--- A search goes down the plan, and with the same part of the plan down the filter and the tree.
-abbrev pub work : Context → ℕ → ℕ → ℕ
-work c size within = rank (weight c.plan.now + size) within c.root.now

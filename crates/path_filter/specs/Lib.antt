@@ -7,8 +7,6 @@ pub mod Cursors
 pub mod Plan
 pub mod Contexts
 pub mod Wanted
-pub mod Evaluate
-pub mod Marks
-pub mod Known
+pub mod SearchParts
 pub mod Planned
 pub mod Links

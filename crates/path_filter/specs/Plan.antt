@@ -68,26 +68,6 @@ operand_in (side o gs) = o
 abbrev pub stage_checks : Stage → Checks
 stage_checks x = checks_of (map check_of x.checks)
 
--- Sizes: each part is smaller than the whole.
-abbrev mutual
-  pub size_of_check : Check → ℕ
-  size_of_check (any_of ks) = size_of_checks ks + 1
-  size_of_check (all_of ks) = size_of_checks ks + 1
-  size_of_check (not_so k) = size_of_check k + 1
-  size_of_check (here i) = 1
-  size_of_check (anywhere i) = 1
-  size_of_check (compared a how b) = size_of_side a + size_of_side b + 3
-
-  pub size_of_side : Side → ℕ
-  size_of_side (side o gs) = size_of_checks gs + 2
-
-  pub size_of_checks : Checks → ℕ
-  size_of_checks no_more = 1
-  size_of_checks (more k ks) = size_of_check k + size_of_checks ks + 1
-
-abbrev pub size_of_guards : List CodeCheck → ℕ
-size_of_guards gs = size_of_checks (checks_of (map check_of gs))
-
 -- ---- what holds and what is found, where it is known which positions find something
 
 -- the string is what the end of the path looks for
@@ -213,11 +193,6 @@ abbrev pub IsMade : List Stage → Type 0
 IsMade [] = Unit {0}
 IsMade (x ∷ earlier) = StageRefers earlier x × IsMade earlier
 
--- How much is evaluated for a plan: its front weighs less, by more than its next stage's checks.
-abbrev pub weight : List Stage → ℕ
-weight [] = 0
-weight (x ∷ xs) = size_of_checks (stage_checks x) + weight xs + 4
-
 -- ---- what is asked of a visit
 
 -- a position finds something from a child: the step goes to it, or goes on from it
@@ -250,7 +225,7 @@ Asks Asked c i x =
 
 -- the positions from the document are known, but for the last one
 abbrev pub Knows : (ℕ → Type 0) → List Stage → Element → Type 0
-Knows Known plan root = (j : ℕ) → suc j < length plan → IsOfDocument plan j → (Known j → At plan root j (document root)) × (At plan root j (document root) → Known j)
+Knows Known plan root = (j : ℕ) → suc j < length plan → IsOfDocument plan j → Known j ↔ At plan root j (document root)
 
 -- ---- what the steps of a path find
 

@@ -1,9 +1,8 @@
 -- What a search for a path's strings looks for, from element to element.
-use Rattle.std.specs.Prelude.{◌≡◌, ◌≢◌, ℕ, zero, suc, ◌+◌, ◌*◌, ◌⊎◌, true, false, List, [], ◌∷◌, Some}
+use Rattle.std.specs.Prelude.{◌≡◌, ◌≢◌, ℕ, zero, suc, ◌⊎◌, true, false, List, [], ◌∷◌, Some}
 use Rattle.voe_tree.specs.declared.element.Element.{Element}
 use Rattle.filter_text.specs.Filter.{Text, element, attribute, Path, path, Steps, arrived, step, Condition, any_of, all_of, not_so, alone, compare, Conditions, no_more, more, Operand, found, literal, local_name}
 use Rattle.voe_tree.specs.Contents.{string_of}
-use Rattle.voe_tree.specs.Shape.{depth}
 use Rattle.path_filter.specs.Places.{document, element_below}
 use Rattle.path_filter.specs.Meaning.{MeetsName, Leads, Holder, Related}
 
@@ -57,7 +56,3 @@ abbrev pub after : ℕ → Steps → Steps
 after zero ss = ss
 after (suc n) arrived = arrived
 after (suc n) (step axis part test cs ss) = after n ss
-
--- A search goes down the filter, and with the same part of the filter down the tree.
-abbrev pub rank : ℕ → ℕ → Element → ℕ
-rank size within root = size * (2 * depth root + 4) + within

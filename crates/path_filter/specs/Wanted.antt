@@ -1,12 +1,12 @@
 -- What a search looks for.
-use Rattle.std.specs.Prelude.{◌≡◌, ℕ, ◌+◌, ◌≤◌}
+use Rattle.std.specs.Prelude.{◌≡◌, ◌≤◌}
 use Rattle.voe_tree.specs.declared.element.Element.{Element}
 use Rattle.filter_text.specs.Filter.{Text}
 use Rattle.voe_tree.specs.Contents.{string_of}
 use Rattle.voe_tree.specs.Shape.{depth}
 use Rattle.filter_text.specs.Size.{steps_in_operand}
 use Rattle.path_filter.specs.Meaning.{Related}
-use Rattle.path_filter.specs.Plan.{Guarded, guards_of, newest, size_of_guards}
+use Rattle.path_filter.specs.Plan.{Guarded, guards_of, newest}
 use Rattle.path_filter.specs.Search.{Strings}
 use Rattle.filter_text.specs.View.{comparison_of, operand_of}
 use Rattle.filter_text.specs.declared.filter.Comparison.TheVariants as comparisons
@@ -45,10 +45,6 @@ abbrev pub Suits : Wanted → Element → Text → Type 0
 Suits wanted.Anything root s = Unit {0}
 Suits (wanted.Related how other) root s = Related (comparison_of how) s (text_found other)
 Suits (wanted.RelatedToOne how side e) root s = (t : Text) × Strings (operand_of side.now.operand) root e.now t × Related (comparison_of how) s t
-
-abbrev pub size_of_wanted : Wanted → ℕ
-size_of_wanted (wanted.RelatedToOne how side e) = size_of_guards side.now.guards + 3
-size_of_wanted _ = 0
 
 -- The checks of a side stand for the conditions of its path, which has at most 512 steps, and its element nests no deeper
 -- than the root. An element that is compared nests no deeper than 64.

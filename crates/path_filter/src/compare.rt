@@ -6,7 +6,7 @@ ghost use Rattle.filter_text.specs.Filter.{compare, found as path_operand};
 ghost use Rattle.filter_text.specs.Size.{steps_in_operand, steps_in_path};
 ghost use Rattle.filter_text.specs.View.{comparison_of, operand_of, path_of};
 ghost use Rattle.path_filter.specs.Contexts.{IsReady};
-ghost use Rattle.path_filter.specs.Evaluate.{PathsDiffer, Relates};
+ghost use Rattle.path_filter.specs.SearchParts.{PathsDiffer, Relates};
 ghost use Rattle.path_filter.specs.Meaning.{Related};
 ghost use Rattle.path_filter.specs.Plan.{Guarded, check_of, checks_of, guards_of, newest};
 ghost use Rattle.path_filter.specs.Search.{Is};

@@ -6,7 +6,7 @@ ghost use Rattle.filter_text.specs.Filter.{Steps, found as path_operand};
 ghost use Rattle.filter_text.specs.Size.{steps_in_path, steps_in_steps};
 ghost use Rattle.filter_text.specs.View.{front_of, path_of, steps_of};
 ghost use Rattle.path_filter.specs.Contexts.{IsReady};
-ghost use Rattle.path_filter.specs.Evaluate.{OwnAttribute, OwnFinds, PathFindsWanted, SearchFinds};
+ghost use Rattle.path_filter.specs.SearchParts.{OwnAttribute, OwnFinds, PathFindsWanted, SearchFinds};
 ghost use Rattle.path_filter.specs.Plan.{AreGuards, Guarded, check_of, checks_of, newest};
 ghost use Rattle.path_filter.specs.Positions.{Has};
 ghost use Rattle.path_filter.specs.Wanted.{IsShallow, anything, exactly};

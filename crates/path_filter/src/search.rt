@@ -6,7 +6,7 @@ ghost use Rattle.filter_text.specs.Filter.{Steps, found as path_operand};
 ghost use Rattle.filter_text.specs.Size.{steps_in_path, steps_in_steps};
 ghost use Rattle.filter_text.specs.View.{conditions_of, condition_of, front_of, path_of, steps_of};
 ghost use Rattle.path_filter.specs.Contexts.{HoldsAt, IsReady};
-ghost use Rattle.path_filter.specs.Evaluate.{Goes, Next, OwnAttribute, OwnFinds, PathFindsWanted, SearchFinds};
+ghost use Rattle.path_filter.specs.SearchParts.{Goes, Next, OwnAttribute, OwnFinds, PathFindsWanted, SearchFinds};
 ghost use Rattle.path_filter.specs.Plan.{AreGuards, CheckRefers, Guarded, StandsFor, check_of, checks_of, newest};
 ghost use Rattle.path_filter.specs.Positions.{Has};
 ghost use Rattle.path_filter.specs.Wanted.{IsShallow, IsSound, Suits, text_found};

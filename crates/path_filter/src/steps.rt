@@ -4,7 +4,7 @@ ghost use Rattle.std.specs.Prelude.{◌≡◌, ◌↔◌, ◌≤◌, ◌<◌, �
 ghost use Rattle.filter_text.specs.Filter.{Steps, attribute};
 ghost use Rattle.filter_text.specs.Size.{steps_in_steps};
 ghost use Rattle.filter_text.specs.View.{front_of, part_of, steps_of, test_of};
-ghost use Rattle.path_filter.specs.Evaluate.{Stays};
+ghost use Rattle.path_filter.specs.SearchParts.{Stays};
 ghost use Rattle.path_filter.specs.Meaning.{MeetsName};
 ghost use Rattle.path_filter.specs.Positions.{Has};
 ghost use Rattle.path_filter.specs.Search.{after};

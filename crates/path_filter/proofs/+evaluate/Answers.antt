@@ -3,14 +3,14 @@ use Rattle.filter_text.specs.Filter.{arrived, path}
 use Rattle.filter_text.specs.View.{path_of, steps_of, test_of}
 use Rattle.voe_tree.specs.Contents.{elements_in, string_of}
 use Rattle.voe_tree.specs.Shape.{depth}
-use Rattle.path_filter.specs.Evaluate.{Goes, SearchFinds, OwnAttribute, PathFindsWanted, Next, NextBelow}
-use Rattle.path_filter.specs.Plan.{FromChild, check_of, newest, size_of_check, size_of_checks, size_of_guards, stage_checks, weight}
+use Rattle.path_filter.specs.SearchParts.{Goes, SearchFinds, OwnAttribute, PathFindsWanted, Next, NextBelow}
+use Rattle.path_filter.specs.Plan.{FromChild, check_of, newest, stage_checks}
 use Rattle.path_filter.specs.Positions.{Has}
 use Rattle.path_filter.specs.Search.{OneOf, after}
-use Rattle.path_filter.specs.Wanted.{IsLike, IsShallow, Suits, anything, exactly, size_of_wanted, text_found, unlike}
+use Rattle.path_filter.specs.Wanted.{IsLike, IsShallow, Suits, anything, exactly, text_found, unlike}
 use Rattle.path_filter.specs.declared.wanted.Found.TheVariants as places
 use Rattle.path_filter.proofs.DifferLaws.{if_none, if_some, none_so, others_decide, owns_unlike, search_unlike}
-use Rattle.path_filter.proofs.EvaluateSteps.{read, one-next, one-past, element-next, element-split, text-next, element-one, search-same, Attributes, own-in, own-out, added, not_added, advanced, skipped, there_already, contra, meets-as, below-more, child_falls, no_steps, past-end, rooted, rooted_in, rooted_out}
+use Rattle.path_filter.proofs.SearchSteps.{read, one-next, one-past, element-next, element-split, text-next, element-one, search-same, Attributes, own-in, own-out, added, not_added, advanced, skipped, there_already, contra, meets-as, below-more, child_falls, no_steps, past-end, rooted, rooted_in, rooted_out}
 use Rattle.path_filter.proofs.GuardLaws.{guard_at, guard_holds, guards_length, goes_in, goes_out}
 use Rattle.path_filter.proofs.HasLaws.{has_or_not}
 use Rattle.path_filter.proofs.MarkLaws.{small_at, skip_marked, one_marked, all_marked, within}
@@ -22,6 +22,7 @@ use Rattle.path_filter.proofs.SearchLaws.{one-at}
 use Rattle.path_filter.proofs.Texts.{of_document}
 use Rattle.path_filter.proofs.+evaluate.Goals.{search::advance-then-has+then-not-has+then-goes, search::advance-else-has, search::advance-else-has-via-then-has+then-not-has+else-goes, search::advance-else-has-via-then-has+else-not-has, search::advance-else-has-via-else-has, search::own_attribute-else-meets-via-then-meets+else-suits, search::own_attribute-else-meets-via-else-meets, search::own_attributes-else-has-via-then-has+else-own_attribute, search::own_attributes-else-has-via-else-has, search::search-else-has-via-then-has+else-suits, search::search-else-has-via-else-has, search::search-in-Element+else-search, search::search-in-Text, first::first_from-in-Element+in_default-first_from, first::first_from-in-Text, alike::all_like_from-in-Element+in_ok-last-in-Element, alike::all_like_from-in-Text, found::found_from-in-Element+else-is_done, found::found_from-in-Text}
 use Rattle.path_filter.proofs.+evaluate.Goals as goal
+use Rattle.path_filter.proofs.Measures.{size_of_check, size_of_checks, size_of_guards, size_of_wanted, weight}
 
 pub search::advance-has-requires : goal.search::advance-has-requires
 search::advance-has-requires t c = omega (arith, fewer c.args.steps.now, c.requires.small, c.loop-i-test.true)

@@ -4,17 +4,17 @@ use Rattle.filter_text.specs.Filter.{Steps}
 use Rattle.filter_text.specs.View.{front_of, steps_of, test_of}
 use Rattle.voe_tree.specs.Contents.{elements_in}
 use Rattle.voe_tree.specs.Shape.{depth}
-use Rattle.path_filter.specs.Contexts.{work}
-use Rattle.path_filter.specs.Evaluate.{SearchFinds, OwnAttribute, Next, NextBelow}
-use Rattle.path_filter.specs.Marks.{MarkedBelow}
+use Rattle.path_filter.specs.SearchParts.{SearchFinds, OwnAttribute, Next, NextBelow}
+use Rattle.path_filter.proofs.Marks.{MarkedBelow}
 use Rattle.path_filter.specs.Meaning.{MeetsName}
-use Rattle.path_filter.specs.Plan.{At, FromChild, check_of, newest, size_of_check, size_of_checks, size_of_guards, stage_checks, weight}
+use Rattle.path_filter.specs.Plan.{At, FromChild, check_of, newest, stage_checks}
 use Rattle.path_filter.specs.Positions.{Has}
-use Rattle.path_filter.specs.Search.{OneOf, after, rank}
-use Rattle.path_filter.specs.Wanted.{IsLike, Suits, anything, size_of_wanted, unlike}
+use Rattle.path_filter.specs.Search.{OneOf, after}
+use Rattle.path_filter.specs.Wanted.{IsLike, Suits, anything, unlike}
 use Rattle.path_filter.specs.declared.plan.Stage.{Stage}
 use Rattle.path_filter.proofs.PlanLaws.{FromChildAt}
 use Rattle.path_filter.proofs.+evaluate.Given as goal
+use Rattle.path_filter.proofs.Measures.{rank, size_of_check, size_of_checks, size_of_guards, size_of_wanted, weight, work}
 
 abbrev pub decreases-visit::check_holds : goal.decreases-visit::check_holds
 decreases-visit::check_holds l = work l.context.now (size_of_check (check_of l.check.now)) 0

@@ -1,12 +1,12 @@
 use Rattle.std.proofs.Common.{◌∙◌, ap, arith, inl, inr, subst, suc, sym}
 use Rattle.voe_tree.specs.declared.element.Element.{Element}
 use Rattle.filter_text.specs.View.{steps_of}
-use Rattle.path_filter.specs.Evaluate.{OwnAttribute, OwnFinds}
+use Rattle.path_filter.specs.SearchParts.{OwnAttribute, OwnFinds}
 use Rattle.path_filter.specs.Positions.{Has}
 use Rattle.path_filter.specs.Search.{after}
 use Rattle.path_filter.specs.Wanted.{IsLike, unlike}
 use Rattle.path_filter.proofs.DifferLaws.{none_so, own_unlike}
-use Rattle.path_filter.proofs.EvaluateSteps.{below-more, contra, read}
+use Rattle.path_filter.proofs.SearchSteps.{below-more, contra, read}
 use Rattle.path_filter.proofs.PositionLaws.{after-at, fewer}
 use Rattle.path_filter.proofs.alike.attributes_like.Goals.{then-has+in_ok-last, else-has}
 use Rattle.path_filter.proofs.alike.attributes_like.Goals as goal

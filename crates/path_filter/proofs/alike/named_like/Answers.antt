@@ -2,11 +2,11 @@ use Rattle.std.proofs.Common.{◌∙◌, ap, arith, refl, subst, sym}
 use Rattle.voe_tree.specs.declared.element.Element.{Element}
 use Rattle.filter_text.specs.Filter.{Steps}
 use Rattle.filter_text.specs.View.{front_of, test_of}
-use Rattle.path_filter.specs.Evaluate.{OwnAttribute}
+use Rattle.path_filter.specs.SearchParts.{OwnAttribute}
 use Rattle.path_filter.specs.Search.{OneOf}
 use Rattle.path_filter.specs.Wanted.{IsLike, text_found, unlike}
 use Rattle.path_filter.proofs.DifferLaws.{none_so}
-use Rattle.path_filter.proofs.EvaluateSteps.{Attributes, contra, meets-as, one-next, one-past, own-in, own-out, read}
+use Rattle.path_filter.proofs.SearchSteps.{Attributes, contra, meets-as, one-next, one-past, own-in, own-out, read}
 use Rattle.path_filter.proofs.SearchLaws.{one-at}
 use Rattle.path_filter.proofs.alike.named_like.Goals.{then-meets+in_ok-last, else-meets}
 use Rattle.path_filter.proofs.alike.named_like.Goals as goal

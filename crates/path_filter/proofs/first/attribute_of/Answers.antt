@@ -4,7 +4,7 @@ use Rattle.path_filter.specs.Search.{OneOf}
 use Rattle.path_filter.specs.Wanted.{anything, exactly}
 use Rattle.path_filter.specs.declared.wanted.Found.{Found}
 use Rattle.path_filter.specs.declared.wanted.Found.TheVariants as found
-use Rattle.path_filter.proofs.EvaluateSteps.{Attributes, contra, meets-as, one-next, one-past, own-in, own-out, read}
+use Rattle.path_filter.proofs.SearchSteps.{Attributes, contra, meets-as, one-next, one-past, own-in, own-out, read}
 use Rattle.path_filter.proofs.SearchLaws.{one-at}
 use Rattle.path_filter.proofs.first.attribute_of.Goals as goal
 

@@ -2,7 +2,7 @@ use Rattle.std.proofs.Common.{drop}
 use Rattle.voe_tree.specs.declared.element.Element.{Element}
 use Rattle.filter_text.specs.Filter.{Steps}
 use Rattle.filter_text.specs.View.{front_of, test_of}
-use Rattle.path_filter.specs.Evaluate.{OwnAttribute}
+use Rattle.path_filter.specs.SearchParts.{OwnAttribute}
 use Rattle.path_filter.specs.Meaning.{MeetsName}
 use Rattle.path_filter.specs.Search.{OneOf}
 use Rattle.path_filter.specs.Wanted.{Suits, anything}

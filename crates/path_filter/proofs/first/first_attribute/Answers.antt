@@ -1,10 +1,10 @@
 use Rattle.std.proofs.Common.{ap, arith, inl, inr, subst, suc, sym, ◌∙◌}
 use Rattle.filter_text.specs.View.{steps_of}
-use Rattle.path_filter.specs.Evaluate.{OwnAttribute}
+use Rattle.path_filter.specs.SearchParts.{OwnAttribute}
 use Rattle.path_filter.specs.Positions.{Has}
 use Rattle.path_filter.specs.Search.{after}
 use Rattle.path_filter.specs.Wanted.{anything, exactly}
-use Rattle.path_filter.proofs.EvaluateSteps.{below-more, contra, read}
+use Rattle.path_filter.proofs.SearchSteps.{below-more, contra, read}
 use Rattle.path_filter.proofs.PositionLaws.{after-at, fewer}
 use Rattle.path_filter.proofs.first.first_attribute.Goals.{then-has+in_default, else-has}
 use Rattle.path_filter.proofs.first.first_attribute.Goals as goal

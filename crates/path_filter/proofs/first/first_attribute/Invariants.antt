@@ -1,7 +1,7 @@
 use Rattle.std.proofs.Common.{◌<◌, ℕ}
 use Rattle.voe_tree.specs.declared.element.Element.{Element}
 use Rattle.filter_text.specs.View.{steps_of}
-use Rattle.path_filter.specs.Evaluate.{OwnAttribute}
+use Rattle.path_filter.specs.SearchParts.{OwnAttribute}
 use Rattle.path_filter.specs.Positions.{Has}
 use Rattle.path_filter.specs.Search.{after}
 use Rattle.path_filter.specs.Wanted.{anything}

@@ -1,6 +1,6 @@
 use Rattle.std.proofs.Common.{◌+◌, arith}
 use Rattle.path_filter.specs.Positions.{Has}
-use Rattle.path_filter.proofs.EvaluateSteps.{read}
+use Rattle.path_filter.proofs.SearchSteps.{read}
 use Rattle.path_filter.proofs.PrefixLaws.{made_front, small_front, knows_front, one_known, all_known}
 use Rattle.path_filter.proofs.found.known_in.Goals as goal
 

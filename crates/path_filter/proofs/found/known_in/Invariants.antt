@@ -1,4 +1,4 @@
-use Rattle.path_filter.specs.Known.{KnownBelow}
+use Rattle.path_filter.proofs.Known.{KnownBelow}
 use Rattle.path_filter.specs.Plan.{newest}
 use Rattle.path_filter.specs.Positions.{Has}
 use Rattle.path_filter.proofs.found.known_in.Given as goal

@@ -10,7 +10,7 @@ use Rattle.path_filter.specs.Planned.{AllMean, Grows, IsLast, Looks, Means, Stan
 use Rattle.path_filter.specs.declared.plan.Check.TheVariants as checks
 use Rattle.path_filter.specs.declared.plan.Sought.TheVariants as sought
 use Rattle.path_filter.specs.declared.plan.Stage.{Stage}
-use Rattle.path_filter.proofs.EvaluateSteps.{read, step-sizes, to-place}
+use Rattle.path_filter.proofs.SearchSteps.{read, step-sizes, to-place}
 use Rattle.path_filter.proofs.GrowLaws.{all_means, all_mean_grown, all_mean_snoc, any_out_means, all_out_means, comparison_means, condition_sizes, follows_grown, follows_on, grows_le, grows_then, guards_grown, inner_operand_le, inner_operand_less, inner_snoc, map_snoc, non_empty, pushed, pushed_document, pushed_grows, pushed_last, stands, start_means, steps_open, steps_snoc}
 use Rattle.path_filter.proofs.CheckViews.{all-out}
 use Rattle.path_filter.proofs.GuardLaws.{guards_snoc}

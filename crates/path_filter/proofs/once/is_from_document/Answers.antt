@@ -6,7 +6,7 @@ use Rattle.filter_text.specs.Size.{steps_in_steps}
 use Rattle.filter_text.specs.View.{operand_of, steps_of}
 use Rattle.filter_text.specs.declared.filter.Path.{out-Path}
 use Rattle.path_filter.specs.Planned.{IsFromDocument}
-use Rattle.path_filter.proofs.EvaluateSteps.{no_steps}
+use Rattle.path_filter.proofs.SearchSteps.{no_steps}
 use Rattle.path_filter.proofs.GrowLaws.{non_empty}
 use Rattle.path_filter.proofs.OnceLaws.{not_empty}
 use Rattle.path_filter.proofs.PositionLaws.{fewer}

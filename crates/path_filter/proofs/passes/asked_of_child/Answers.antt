@@ -3,7 +3,7 @@ use Rattle.std.specs.List.{slice_get}
 use Rattle.path_filter.specs.Plan.{Asks}
 use Rattle.path_filter.specs.Positions.{Has}
 use Rattle.path_filter.proofs.AskLaws.{asks-more}
-use Rattle.path_filter.proofs.EvaluateSteps.{below-more, read}
+use Rattle.path_filter.proofs.SearchSteps.{below-more, read}
 use Rattle.path_filter.proofs.MarkLaws.{skipped, small_at, within}
 use Rattle.path_filter.proofs.PlaceLaws.{same_some}
 use Rattle.path_filter.proofs.passes.asked_of_child.Goals as goal

@@ -1,5 +1,5 @@
 use Rattle.std.proofs.Common.{◌-◌, length}
-use Rattle.path_filter.specs.Marks.{MarkedBelow}
+use Rattle.path_filter.proofs.Marks.{MarkedBelow}
 use Rattle.path_filter.specs.Plan.{Owns}
 use Rattle.path_filter.specs.Positions.{Has}
 use Rattle.path_filter.proofs.passes.own.Given as goal

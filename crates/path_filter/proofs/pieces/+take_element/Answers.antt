@@ -2,7 +2,7 @@ use Rattle.std.proofs.Common.{◌≡◌, ◌∙◌, ◌↔◌, ◌++◌, ◌+◌
 use Rattle.std.specs.Bool.{OnTrue}
 use Rattle.voe_tree.specs.Contents.{string_of}
 use Rattle.path_filter.specs.Cursors.{Fits, left, texts_of}
-use Rattle.path_filter.proofs.EvaluateSteps.{read}
+use Rattle.path_filter.proofs.SearchSteps.{read}
 use Rattle.path_filter.proofs.Texts.{texts-element, texts-text, moved}
 use Rattle.path_filter.proofs.pieces.+take_element.Goals.{in-Element, in-Text}
 use Rattle.path_filter.proofs.pieces.+take_element.Goals as goal

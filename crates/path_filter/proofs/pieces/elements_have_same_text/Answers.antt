@@ -3,7 +3,7 @@ use Rattle.std.specs.Bool.{OnTrue, OnFalse}
 use Rattle.voe_tree.specs.Contents.{string_of}
 use Rattle.filter_text.specs.Filter.{Text}
 use Rattle.path_filter.specs.Cursors.{left}
-use Rattle.path_filter.proofs.EvaluateSteps.{contra}
+use Rattle.path_filter.proofs.SearchSteps.{contra}
 use Rattle.path_filter.proofs.Texts.{cancel}
 use Rattle.path_filter.proofs.pieces.elements_have_same_text.Goals as goal
 

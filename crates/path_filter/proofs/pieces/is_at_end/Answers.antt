@@ -1,5 +1,5 @@
 use Rattle.std.proofs.Common.{◌∙◌, sym, refl}
-use Rattle.path_filter.proofs.EvaluateSteps.{contra}
+use Rattle.path_filter.proofs.SearchSteps.{contra}
 use Rattle.path_filter.proofs.Fronts.{not_nothing}
 use Rattle.path_filter.proofs.pieces.is_at_end.Goals as goal
 

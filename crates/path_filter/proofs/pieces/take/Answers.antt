@@ -2,7 +2,7 @@ use Rattle.std.proofs.Common.{◌∙◌, ◌++◌, refl, sym, ap, arith}
 use Rattle.std.proofs.lemmas.Bool.Decides.{Decides-eqb}
 use Rattle.std.proofs.lemmas.Slice.Eq.{slice_eq-Decides}
 use Rattle.path_filter.specs.Cursors.{levels_text}
-use Rattle.path_filter.proofs.EvaluateSteps.{contra}
+use Rattle.path_filter.proofs.SearchSteps.{contra}
 use Rattle.path_filter.proofs.Fronts.{behind_fronts, other_fronts, not_not, not_false}
 use Rattle.path_filter.proofs.pieces.take.Goals as goal
 

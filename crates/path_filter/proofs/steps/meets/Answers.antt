@@ -4,7 +4,7 @@ use Rattle.std.proofs.lemmas.Bool.Decides.{Decides-eqb}
 use Rattle.std.proofs.lemmas.Slice.Eq.{slice_eq-Decides}
 use Rattle.path_filter.specs.Meaning.{MeetsName}
 use Rattle.filter_text.specs.View.{test_of}
-use Rattle.path_filter.proofs.EvaluateSteps.{name-meets}
+use Rattle.path_filter.proofs.SearchSteps.{name-meets}
 use Rattle.filter_text.specs.declared.filter.Test.TheVariants as tests
 use Rattle.path_filter.proofs.steps.meets.Goals as goal
 

@@ -1,9 +1,9 @@
 use Rattle.std.proofs.Common.{◌↔◌, ◌<◌, ◌+◌, ℕ, suc, arith, subst, sym}
 use Rattle.filter_text.specs.View.{steps_of}
-use Rattle.path_filter.specs.Evaluate.{Stays}
+use Rattle.path_filter.specs.SearchParts.{Stays}
 use Rattle.path_filter.specs.Positions.{Has}
 use Rattle.path_filter.specs.Search.{after}
-use Rattle.path_filter.proofs.EvaluateSteps.{contra, none_more, one_more, read}
+use Rattle.path_filter.proofs.SearchSteps.{contra, none_more, one_more, read}
 use Rattle.path_filter.proofs.PositionLaws.{after-at, fewer}
 use Rattle.path_filter.proofs.steps.staying.Goals.{then-has+then-stays, else-has, else-has-via-then-has+else-stays, else-has-via-else-has}
 use Rattle.path_filter.proofs.steps.staying.Goals as goal

@@ -1,6 +1,6 @@
 use Rattle.std.proofs.Common.{◌↔◌, ◌<◌, ℕ}
 use Rattle.filter_text.specs.View.{steps_of}
-use Rattle.path_filter.specs.Evaluate.{Stays}
+use Rattle.path_filter.specs.SearchParts.{Stays}
 use Rattle.path_filter.specs.Positions.{Has}
 use Rattle.path_filter.specs.Search.{after}
 use Rattle.path_filter.proofs.steps.staying.Given as goal

@@ -3,7 +3,7 @@ use Rattle.std.specs.Option.{IfSome, MatchOption}
 use Rattle.std.proofs.lemmas.Bool.Decides.{Decides-eqb}
 use Rattle.std.proofs.lemmas.Slice.Eq.{strip_prefix_is}
 use Rattle.voe_tree.specs.Contents.{string_of}
-use Rattle.path_filter.proofs.EvaluateSteps.{read}
+use Rattle.path_filter.proofs.SearchSteps.{read}
 use Rattle.path_filter.proofs.Texts.{texts_of, texts-element, texts-text, moved}
 use Rattle.path_filter.proofs.text.+behind_text.Goals.{in-Element+in-Some, in-Text+in-Some-strip_prefix}
 use Rattle.path_filter.proofs.text.+behind_text.Goals as goal

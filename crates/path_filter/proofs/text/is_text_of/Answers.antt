@@ -1,7 +1,7 @@
 use Rattle.std.proofs.Common.{◌≡◌, ◌++◌, ◌∙◌, [], sym, subst, refl, List, ℕ, append-nil}
 use Rattle.std.specs.Option.{IfNone}
 use Rattle.voe_tree.specs.Contents.{string_of}
-use Rattle.path_filter.proofs.EvaluateSteps.{contra}
+use Rattle.path_filter.proofs.SearchSteps.{contra}
 use Rattle.path_filter.proofs.text.is_text_of.Goals as goal
 
 pub returns-in-None : goal.returns-in-None

@@ -1,6 +1,7 @@
 use Rattle.std.proofs.Common.{map}
-use Rattle.path_filter.specs.Plan.{check_of, checks_of, size_of_check, size_of_checks}
+use Rattle.path_filter.specs.Plan.{check_of, checks_of}
 use Rattle.path_filter.proofs.visit.+asks.Given as goal
+use Rattle.path_filter.proofs.Measures.{size_of_check, size_of_checks}
 
 abbrev pub decreases-ask_check : goal.decreases-ask_check
 decreases-ask_check l = size_of_check (check_of l.check.now)

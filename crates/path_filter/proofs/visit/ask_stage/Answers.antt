@@ -2,7 +2,7 @@ use Rattle.std.proofs.Common.{inr, map, refl, sym, subst}
 use Rattle.path_filter.specs.Plan.{ChecksAsk, check_of, checks_of, stage_checks}
 use Rattle.path_filter.specs.Positions.{Has}
 use Rattle.path_filter.proofs.AskLaws.{checks_ask-more}
-use Rattle.path_filter.proofs.EvaluateSteps.{contra}
+use Rattle.path_filter.proofs.SearchSteps.{contra}
 use Rattle.path_filter.proofs.visit.ask_stage.Goals.{then-goes_deeper, else-goes_deeper}
 use Rattle.path_filter.proofs.visit.ask_stage.Goals as goal
 

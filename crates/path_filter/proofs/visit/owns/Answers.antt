@@ -4,7 +4,7 @@ use Rattle.filter_text.specs.View.{part_of, test_of}
 use Rattle.path_filter.specs.Meaning.{MeetsName}
 use Rattle.path_filter.specs.Plan.{EndsAt}
 use Rattle.path_filter.specs.Search.{OneOf}
-use Rattle.path_filter.proofs.EvaluateSteps.{contra, read, meets-as}
+use Rattle.path_filter.proofs.SearchSteps.{contra, read, meets-as}
 use Rattle.path_filter.proofs.SearchLaws.{one-at}
 use Rattle.path_filter.proofs.visit.owns.Goals as goal
 

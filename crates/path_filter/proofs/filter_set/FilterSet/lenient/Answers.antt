@@ -5,7 +5,7 @@ use Rattle.filter_text.specs.View.{path_of}
 use Rattle.filter_text.specs.Reading.{Reads}
 use Rattle.filter_text.specs.declared.filter.Path.{Path}
 use Rattle.path_filter.specs.Sets.{AreReadLeniently, IsRefused}
-use Rattle.path_filter.proofs.EvaluateSteps.{read, to-place}
+use Rattle.path_filter.proofs.SearchSteps.{read, to-place}
 use Rattle.path_filter.proofs.SetLaws.{one_more_leniently}
 use Rattle.path_filter.proofs.filter_set.FilterSet.lenient.Goals as goal
 

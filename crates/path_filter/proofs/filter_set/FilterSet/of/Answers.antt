@@ -2,7 +2,7 @@ use Rattle.std.proofs.Common.{◌+◌, take, sym, subst}
 use Rattle.filter_text.specs.View.{path_of}
 use Rattle.filter_text.specs.Reading.{Reads}
 use Rattle.path_filter.specs.Sets.{AreRead}
-use Rattle.path_filter.proofs.EvaluateSteps.{read, to-place}
+use Rattle.path_filter.proofs.SearchSteps.{read, to-place}
 use Rattle.path_filter.proofs.SetLaws.{one_more}
 use Rattle.path_filter.proofs.filter_set.FilterSet.of.Goals as goal
 

@@ -16,7 +16,7 @@ use Rattle.filter_text.specs.View.{path_of, steps_of, front_of, axis_of, part_of
 use Rattle.filter_text.specs.Size.{size_of_steps, size_of_conditions, steps_in_steps}
 use Rattle.path_filter.specs.Search.{OneOf, after}
 use Rattle.path_filter.specs.Wanted.{Suits}
-use Rattle.path_filter.specs.Evaluate.{Goes, FindsOwn, SearchFinds, OwnAttribute, FindsWanted, Next, NextBelow, PathFindsWanted}
+use Rattle.path_filter.specs.SearchParts.{Goes, FindsOwn, SearchFinds, OwnAttribute, FindsWanted, Next, NextBelow, PathFindsWanted}
 use Rattle.path_filter.specs.declared.wanted.Wanted.{Wanted}
 use Rattle.filter_text.specs.declared.filter.Path.{Path as CodePath, out-Path}
 use Rattle.filter_text.specs.declared.filter.Step.{Step}
