@@ -1,7 +1,7 @@
 -- A tree says at most one message.
-use Rattle.std.proofs.Common.{◌≡◌, true, false, Some, None, refl, sym, ◌∙◌, subst}
+use Rattle.std.proofs.Common.{◌≡◌, Some, refl, sym, ◌∙◌}
 use Rattle.std.proofs.Props.{props}
-use Rattle.std.specs.Prelude.{IsTrue, IsSome}
+use Rattle.std.specs.Prelude.{IsTrue}
 use mathlib.Core.HLevel.{is_prop→PathP}
 use Rattle.voe_tree.specs.declared.element.Element.{Element}
 use Rattle.vtp_messages.specs.Parts.{is_stripped_if}

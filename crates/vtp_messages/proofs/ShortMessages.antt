@@ -1,19 +1,16 @@
 -- A message of short texts is short enough to be read.
-use Rattle.std.proofs.Common.{◌≡◌, ℕ, ◌+◌, ◌*◌, ◌≤◌, Bool, true, false, List, [], ◌∷◌, ◌++◌, length, map, refl, sym, ◌∙◌, ap, subst, inl, inr, arith, length-append}
-use Rattle.std.specs.Prelude.{◌==◌, ◌&&◌, nat_le, if◌then◌else◌, Option, Some, None, codes}
+use Rattle.std.proofs.Common.{◌≡◌, ℕ, ◌+◌, ◌*◌, ◌≤◌, Bool, true, false, List, [], ◌∷◌, ◌++◌, length, map, sym, ◌∙◌, ap, subst, inl, inr, arith, length-append}
+use Rattle.std.specs.Prelude.{◌==◌, nat_le, if◌then◌else◌, Option, Some, None, codes}
 use Rattle.std.proofs.lemmas.Bool.{and_from, and_parts, cases_Bool, le-leb, leb-true}
-use Rattle.std.proofs.lemmas.List.{length-map}
 use Rattle.xml_lexer.specs.Characters.{Text}
 use Rattle.xml_lexer.specs.Token.{Token, start, end, text}
 use Rattle.xml_lexer.specs.Phases.{max_tokens}
-use Rattle.voe_tree.specs.Canonical.{all_written, is_escaped, is_escaped_in_value, is_narrow, max_bytes, put_byte, reference_to, text_tokens, written, written_value}
-use Rattle.voe_tree.specs.Writing.{are_few}
+use Rattle.voe_tree.specs.Canonical.{all_written, is_escaped, is_escaped_in_value, max_bytes, put_byte, reference_to, text_tokens, written, written_value}
 use Rattle.voe_tree.proofs.WrittenRuns.{all_written-append, text_tokens-escaped, text_tokens-plain}
 use Rattle.voe_tree.proofs.WrittenTexts.{put_byte-written}
 use Rattle.voe_packet.specs.Drafts.{params_size}
-use Rattle.voe_packet.specs.Params.{param_text, param_token}
+use Rattle.voe_packet.specs.Params.{param_token}
 use Rattle.voe_packet.specs.declared.param.Param.{Param}
-use Rattle.vtp_messages.specs.Roles.{role_word}
 use Rattle.vtp_messages.specs.Sizes.{size_if, texts_size}
 use Rattle.vtp_messages.specs.Spelling.{inner, is_writable_message, leaf, leaf_if, message_tokens, meta, meta_inner, root_attributes, root_name, spelling}
 use Rattle.vtp_messages.specs.declared.message.Message.{Message}

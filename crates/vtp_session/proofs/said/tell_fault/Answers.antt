@@ -1,4 +1,3 @@
-use Rattle.std.proofs.Common.{◌≡◌}
 use Rattle.vtp_session.proofs.said.tell_fault.Goals as goal
 
 pub returns-in_default : goal.returns-in_default
