@@ -1,6 +1,6 @@
 -- What a turn of a broker adds, and what it gives.
 use Rattle.std.proofs.Common.{◌≡◌, ◌⊎◌, ◌+◌, ℕ, zero, suc, Bool, true, false, List, [], ◌∷◌, ◌++◌, map, length, Some, None, refl, sym, ap, ◌∙◌, subst, inl, inr, arith}
-use Rattle.std.specs.Prelude.{Option, cond, slice_get, ◌&&◌}
+use Rattle.std.specs.Prelude.{Option, cond, nat_lt, slice_get, ◌&&◌}
 use Rattle.std.proofs.lemmas.Bool.{and_parts}
 use Rattle.std.proofs.lemmas.List.{append-nil, map-append}
 use mathlib.Core.List.{IsPrefix}
@@ -171,7 +171,7 @@ module _ {D : Type 0} (disk : Ghosts D) (old new : EndView D) (at : ℕ) (identi
   given_by (Next link session after) up sound s =
       next_good old.config old.notes old.sessions link session after at identifier packet sound.told.in_order (s.happens up (plain_rules old.config) (λ p. false) tt).answer_is
   given_by (event.Acked link session name) up sound s =
-      absurd (no_acking at identifier packet _ _ _ _ _ (s.happens up (plain_rules old.config) (λ p. false) (λ notes note. refl)).answer_is)
+      absurd (no_acking at identifier packet (nat_lt session (last_of old.sessions link)) (last_of old.sessions link) (is_open old.notes link name) (has_room old.config old.notes (Done link name)) (Done link name) (s.happens up (plain_rules old.config) (λ p. false) (λ notes note. refl)).answer_is)
   given_by (Live after filters) up sound s =
       let live = s.plain up in
       good_at old.config [] old.notes at (offer identifier packet) sound.told.in_order (ap offered_in live.2)
@@ -216,7 +216,7 @@ module _ {D : Type 0} (disk : Ghosts D) (old new : EndView D) (ask : BrokerEvent
         turns = subst (λ (e : Option BrokerEvent). Turns disk old ask e reply new) (sym is) s;
         good = good_reply disk old new happened reply sound s;
         kept = λ up fate. (fares.up fate, s.sound.up (fares.up fate));
-        nothing = fares.nothing
+        nothing = fares.nothing;
       }
 
   pub answered_at_once : admitted old.config old.sessions ask ≡ None → IsSound disk old → reply ≡ refused ask → new ≡ old → MeansTurn disk old ask reply new
@@ -225,5 +225,5 @@ module _ {D : Type 0} (disk : Ghosts D) (old new : EndView D) (ask : BrokerEvent
         turns = subst (λ (e : Option BrokerEvent). Turns disk old ask e reply new) (sym is) (reply_is, same);
         good = subst IsGoodReply (sym reply_is) (refused_good ask);
         kept = λ up fate. subst (IsKept disk) (sym same) (up, sound.up up);
-        nothing = λ no. ap (λ v. v.notes) same
+        nothing = λ no. ap (λ v. v.notes) same;
       }
