@@ -1,0 +1,2 @@
+-- Lemmas on words that ask for something.
+pub mod Asking

@@ -1,0 +1,8 @@
+use Rattle.std.proofs.Common.{inr, rules}
+use Rattle.clap.specs.Matches.{found_of}
+use Rattle.clap.specs.Walk.{rows_of}
+use Rattle.online_words.proofs.Asking.{no_listen}
+use Rattle.online_words.proofs.reading.listen_of.Goals as goal
+
+pub returns-in_default-count_of : goal.returns-in_default-count_of
+returns-in_default-count_of c = no_listen (rows_of (found_of c.args.found.now)) (inr (search rules))

@@ -1,0 +1,3 @@
+-- Words that ask for something.
+pub mod Network
+pub mod Requests
