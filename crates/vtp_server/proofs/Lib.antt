@@ -1,0 +1,10 @@
+pub mod Carrying
+pub mod Heard
+pub mod Timely
+pub mod Joins
+pub mod OneMove
+pub mod Lasts
+pub mod HubTalks
+pub mod Goods
+pub mod RuleFacts
+pub mod Served

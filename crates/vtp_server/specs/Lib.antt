@@ -1,0 +1,23 @@
+-- Words of talks and connections.
+pub mod Speech
+pub mod Moves
+pub mod Fits
+pub mod Talk
+pub mod Carried
+pub mod Counts
+pub mod InTime
+pub mod Reading
+pub mod ReadMoves
+pub mod Ends
+pub mod Asks
+pub mod Endings
+pub mod Sendable
+pub mod LineSide
+pub mod TakeSide
+pub mod FeedMemory
+pub mod FeedSide
+pub mod AuthorSide
+pub mod ListenMemory
+pub mod ListenSide
+pub mod HubTurns
+pub mod Calls
