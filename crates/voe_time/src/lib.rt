@@ -3,6 +3,8 @@
 //! The calendar is `jiff`'s, which this crate asks and does not write again.
 #![tactic(auto)]
 
+pub mod laws;
+
 ghost use Rattle.std.specs.Prelude.{◌≡◌, ◌≤◌, IfOk};
 ghost use Rattle.std.specs.Io.BufRead.{strip_last};
 ghost use Rattle.voe_time.specs.Stamp.{IsStamp, is_time_text};

@@ -55,7 +55,7 @@ and-true : (a b : Bool) → b ≡ true → (a && b) ≡ a
 and-true true b h = h
 and-true false b h = refl
 
-writable_is : (m : Message) → is_writable_message m ≡ are_few (length (spelling m)) (length (message_tokens m))
+pub writable_is : (m : Message) → is_writable_message m ≡ are_few (length (spelling m)) (length (message_tokens m))
 writable_is m = and-true (are_few (length (spelling m)) (length (message_tokens m))) (list_all is_narrow (message_tokens m)) (message_narrow m)
 
 refused : (m : Message) (fault : WriteFault) → fault ≡ TooLarge → are_few (length (spelling m)) (length (message_tokens m)) ≡ false → RefusesWritten (message_tokens m) fault

@@ -6,3 +6,5 @@ pub mod Names
 pub mod Kept
 pub mod Said
 pub mod Printable
+pub mod OneMessage
+pub mod ShortMessages

@@ -5,3 +5,4 @@ pub mod Reading
 pub mod Spelling
 pub mod Rooted
 pub mod Showing
+pub mod Sizes

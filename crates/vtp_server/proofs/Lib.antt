@@ -8,3 +8,15 @@ pub mod HubTalks
 pub mod Goods
 pub mod RuleFacts
 pub mod Served
+pub mod FirstOpen
+pub mod AuthorTalks
+pub mod ListenTalks
+pub mod Caused
+pub mod Called
+pub mod Spoken
+pub mod GoodPackets
+pub mod Leading
+pub mod EndStates
+pub mod AuthorSteps
+pub mod SubscriberSteps
+pub mod EndCalls

@@ -202,3 +202,39 @@ feed_tells = record {
   write = λ m waits. feed_on is_tell m waits refl refl refl;
   line = λ m waits. feed_on is_tell m waits refl refl refl;
 }
+
+-- ---- an author
+
+author_reads_quietly : (m : AuthorMemory) (a : Act) → is_tell (author_after_read m a).1 ≡ false
+author_reads_quietly m (act.Answer at identifier ack why) = refl
+author_reads_quietly m (act.Packet packet) = refl
+author_reads_quietly m act.Nothing = refl
+author_reads_quietly m (act.Auth name filters) = refl
+author_reads_quietly m (act.Challenge asker) = refl
+author_reads_quietly m (act.Beat asker) = refl
+author_reads_quietly m act.Pass = refl
+author_reads_quietly m (act.Garbage place why) = refl
+
+recorded_quietly : (m : AuthorMemory) → is_tell (recorded m).1 ≡ false
+recorded_quietly None = refl
+recorded_quietly (Some heard) = refl
+
+author_turns_quietly : (m : AuthorMemory) (r : AuthorStep) → is_tell (author_after_turn m r).1 ≡ false
+author_turns_quietly m (author.Packet at identifier packet) = refl
+author_turns_quietly m author.Nothing = refl
+author_turns_quietly m author.Noted = recorded_quietly m
+author_turns_quietly m author.Full = refl
+author_turns_quietly m (author.Down faults stopped) = refl
+author_turns_quietly m author.NoMemory = refl
+author_turns_quietly m author.Wrote = refl
+author_turns_quietly m author.Known = refl
+author_turns_quietly m (author.Refused code) = refl
+author_turns_quietly m author.Passed = refl
+
+pub author_tells : TellsNothing author_rules
+author_tells = record {
+  read = λ m a beat waits. author_reads_quietly m a;
+  turn = λ m r front waits. author_turns_quietly m r;
+  write = λ m waits. refl;
+  line = λ m waits. refl;
+}

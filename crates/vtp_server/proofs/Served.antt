@@ -17,14 +17,18 @@ use Rattle.vtp_server.specs.declared.side.Next.TheVariants as next
 use Rattle.vtp_server.proofs.Lasts.{last_turn, no_last_line}
 use Rattle.vtp_server.proofs.OneMove.{ends_full}
 use Rattle.vtp_server.specs.Calls.{IsServed, course_from, standing_from}
+use Rattle.vtp_server.specs.EndCauses.{HasLinkCause}
 use Rattle.vtp_server.specs.Endings.{serve_ended}
 use Rattle.vtp_server.specs.HubTurns.{IsHubTurn}
+use Rattle.vtp_server.specs.Written.{ComesFor, SpeaksForTurns}
 use Rattle.vtp_server.specs.declared.ask.BrokerAsk.{BrokerAsk}
 use Rattle.vtp_server.specs.declared.ended.Ended.{Ended}
 use Rattle.vtp_server.specs.declared.ended.Ended.TheVariants as ended
 use Rattle.vtp_server.specs.declared.ended.Stop.{Stop}
 use Rattle.vtp_server.specs.declared.ended.Stop.TheVariants as stop
+use Rattle.vtp_server.proofs.Caused.{serve_cause}
 use Rattle.vtp_server.proofs.HubTalks.{turns_of}
+use Rattle.vtp_server.proofs.Spoken.{all_written}
 
 -- only a sink's fault is told as one
 sink_fault : (p : Parted Stop) → serve_ended p ≡ ended.SinkFault → p ≡ Broken breach.SinkFault
@@ -38,7 +42,7 @@ sink_fault (Stopped (stop.Replaced newer)) e = absurd (cc)
 sink_fault (Stopped (stop.Down faults)) e = absurd (cc)
 sink_fault (Stopped stop.NoMemory) e = absurd (cc)
 
-module _ {S M L : Type 0} (fixed_of : S → List ℕ) (records_of : S → List (List ℕ)) (sound_of : S → Type 0) (means : S → BrokerEvent → BrokerStep → S → Type 0) (sign_of : BrokerStep → ℕ) (link : LinkGhosts L) (terms : Terms) (rules : Rules M BrokerAsk BrokerStep Stop) (stops : StopsByTurns rules) (tells : TellsNothing rules) (memory : M) (first : Next BrokerAsk Stop) (goes : is_over first ≡ false) (quiet : is_tell first ≡ false) where
+module _ {S M L : Type 0} (fixed_of : S → List ℕ) (records_of : S → List (List ℕ)) (sound_of : S → Type 0) (means : S → BrokerEvent → BrokerStep → S → Type 0) (sign_of : BrokerStep → ℕ) (link : LinkGhosts L) (terms : Terms) (rules : Rules M BrokerAsk BrokerStep Stop) (stops : StopsByTurns rules) (tells : TellsNothing rules) (speaks : SpeaksForTurns rules) (memory : M) (first : Next BrokerAsk Stop) (goes : is_over first ≡ false) (quiet : is_tell first ≡ false) (fits : ComesFor None first) where
   abbrev Served : ℕ → Ended → SeatState → SeatState → L → L → Type 0
   Served clock result before after old new = IsServed fixed_of records_of sound_of means sign_of link terms rules memory first clock result before after old new
 
@@ -58,6 +62,11 @@ module _ {S M L : Type 0} (fixed_of : S → List ℕ) (records_of : S → List (
     stopped = λ why e.
         last_turn terms rules stops (course_from memory first start) ends.moves why goes ends.made.talk
         (subst (λ (p : Parted Stop). EndsBy terms p (course_after terms rules (course_from memory first start) ends.moves) ends.moves ends.rest ends.lost (record { link = link_counts link old; sink = 0 }) (record { link = link_counts link new; sink = no_sink })) e ends.cause).0;
+    cause =
+        subst (λ (r : Ended). HasLinkCause r (link_counts link old) (link_counts link new)) (sym told)
+        (serve_cause terms ends.moves ends.rest ends.lost (record { link = link_counts link old; sink = 0 }) (record { link = link_counts link new; sink = no_sink }) (course_after terms rules (course_from memory first start) ends.moves)
+        (λ h. no_last_line terms rules tells (course_from memory first start) ends.moves quiet ends.made.talk h) parted ends.cause);
+    written = all_written terms rules speaks None (course_from memory first start) ends.moves fits ends.made.talk;
     no_line = λ e.
         no_last_line terms rules tells (course_from memory first start) ends.moves quiet ends.made.talk
         (subst (λ (p : Parted Stop). EndsBy terms p (course_after terms rules (course_from memory first start) ends.moves) ends.moves ends.rest ends.lost (record { link = link_counts link old; sink = 0 }) (record { link = link_counts link new; sink = no_sink })) (sink_fault parted (sym told ∙ e)) ends.cause).0;

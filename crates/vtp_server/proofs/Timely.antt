@@ -1,5 +1,5 @@
 -- The moments of a session over a read.
-use Rattle.std.proofs.Common.{◌≡◌, ◌≤◌, ◌+◌, ℕ, Bool, true, false, cond, nat_le, sym, refl, subst, arith, IfOk, []}
+use Rattle.std.proofs.Common.{◌≡◌, ◌≤◌, ◌+◌, ℕ, Bool, true, false, cond, nat_le, sym, refl, subst, arith, IfOk, List, []}
 use Rattle.std.specs.declared.result.Result.{Result}
 use Rattle.vtp_session.specs.State.{SessionState}
 use Rattle.vtp_session.specs.Watch.{Times, Watch, tick_of, after_tick, beats_on}
@@ -49,3 +49,7 @@ silence_in_time s t m now heard moment f time later_ =
 pub idle_time : (s t : SessionState) (m now moment : ℕ) (r : Result Seen Breach) → InTime s.watch m → m ≤ now → now ≡ moment → IfOk r (λ seen. Hearing s [] now Idle seen t) → IfOk r (λ seen. GoesOnInTime s.watch t.watch moment)
 idle_time s t m now moment r time later_ e h =
     if_ok_map r (λ seen. Hearing s [] now Idle seen t) (λ seen. GoesOnInTime s.watch t.watch moment) (λ seen hearing. subst (λ (n : ℕ). GoesOnInTime s.watch t.watch n) e (heard_in_time s t Idle m now hearing.after time later_)) h
+
+pub piece_time : (s t : SessionState) (piece : List ℕ) (m now moment : ℕ) (r : Result Seen Breach) → InTime s.watch m → m ≤ now → now ≡ moment → IfOk r (λ seen. (found : Found) × Hearing s piece now found seen t) → IfOk r (λ seen. GoesOnInTime s.watch t.watch moment)
+piece_time s t piece m now moment r time later_ e h =
+    if_ok_map r (λ seen. (found : Found) × Hearing s piece now found seen t) (λ seen. GoesOnInTime s.watch t.watch moment) (λ seen hearing. subst (λ (n : ℕ). GoesOnInTime s.watch t.watch n) e (heard_in_time s t hearing.0 m now hearing.1.after time later_)) h

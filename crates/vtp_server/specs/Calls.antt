@@ -19,10 +19,12 @@ use Rattle.vtp_server.specs.declared.breach.Parted.{Parted}
 use Rattle.vtp_server.specs.declared.breach.Parted.TheVariants.{Stopped}
 use Rattle.vtp_server.specs.declared.side.Next.{Next}
 use Rattle.vtp_server.specs.AuthorSide.{author_rules, submits}
+use Rattle.vtp_server.specs.EndCauses.{HasCause, HasLinkCause, HasSubmitCause}
 use Rattle.vtp_server.specs.Endings.{listen_ended, serve_ended, submitted_by}
 use Rattle.vtp_server.specs.HubTurns.{AreTurnsOf, IsHubTurn}
 use Rattle.vtp_server.specs.ListenMemory.{first_listening}
 use Rattle.vtp_server.specs.ListenSide.{listen_rules, listens}
+use Rattle.vtp_server.specs.Written.{AllWritten}
 use Rattle.vtp_server.specs.declared.ask.BrokerAsk.{BrokerAsk}
 use Rattle.vtp_server.specs.declared.author.AuthorAsk.{AuthorAsk}
 use Rattle.vtp_server.specs.declared.ended.Ended.{Ended}
@@ -67,6 +69,9 @@ pub record IsServed {S M L : Type 0} (fixed_of : S → List ℕ) (records_of : S
   -- where the side made no further move, that was for the reply of the last turn
   pub stopped : (stop : Stop) → parted ≡ Stopped stop → EndsInTurn rules ends.moves stop
   pub no_line : result ≢ ended.SinkFault
+  pub cause : HasLinkCause result (link_counts link old) (link_counts link new)
+  -- a verdict or a packet was written only behind the turn that gave it
+  pub written : AllWritten terms.voice None ends.moves
 
 -- A packet of an author's line was submitted, the turns being made from a seat.
 pub record IsSubmitted {T L : Type 0} (acts : T → AuthorAsk → AuthorStep → ℕ → ℕ → T → Type 0) (link : LinkGhosts L) (terms : Terms) (clock : ℕ) (result : Submitted) (before after : T) (old new : L) : Type 0 where
@@ -76,6 +81,7 @@ pub record IsSubmitted {T L : Type 0} (acts : T → AuthorAsk → AuthorStep →
   pub told : result ≡ submitted_by parted
   pub no_sink : ℕ
   pub ends : Ends terms author_rules acts (course_from None submits start) (standing_from before (link.traffic old) None) parted after (link.traffic new) None (record { link = link_counts link old; sink = 0 }) (record { link = link_counts link new; sink = no_sink })
+  pub cause : HasSubmitCause result (link_counts link old) (link_counts link new)
 
 -- A broker was followed until so many packets were entered, the first turn acting on so many records.
 pub record IsFollowed {T L K : Type 0} (acts : T → List ℕ → SubscriberStep → ℕ → ℕ → T → Type 0) (link : LinkGhosts L) (sink : SinkGhosts K) (terms : Terms) (count front clock : ℕ) (result : Ended) (before after : T) (old new : L) (out out_after : K) : Type 0 where
@@ -84,3 +90,4 @@ pub record IsFollowed {T L K : Type 0} (acts : T → List ℕ → SubscriberStep
   pub parted : Parted ListenStop
   pub told : result ≡ listen_ended parted
   pub ends : Ends terms listen_rules acts (course_from (first_listening count front) (listens count) start) (standing_from before (link.traffic old) (sink.held out)) parted after (link.traffic new) (sink.held out_after) (counts_of link sink old out) (counts_of link sink new out_after)
+  pub cause : HasCause result (counts_of link sink old out) (counts_of link sink new out_after)

@@ -21,3 +21,9 @@ pub mod ListenMemory
 pub mod ListenSide
 pub mod HubTurns
 pub mod Calls
+pub mod NodeState
+pub mod OneEnd
+pub mod Submission
+pub mod Entered
+pub mod EndCauses
+pub mod Written
