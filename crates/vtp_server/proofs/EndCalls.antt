@@ -23,6 +23,7 @@ use Rattle.vtp_server.specs.Endings.{listen_ended, submitted_by}
 use Rattle.vtp_server.specs.ListenMemory.{first_listening}
 use Rattle.vtp_server.specs.ListenSide.{listen_rules, listens}
 use Rattle.vtp_server.specs.Moves.{lines_told}
+use Rattle.vtp_server.specs.NodeState.{NodeState}
 use Rattle.vtp_server.specs.OneEnd.{IsAuthorTurn, IsSameEnd, IsSubscriberTurn, state_of}
 use Rattle.vtp_server.specs.Submission.{AllExpected, IsToldOf, LineTurn}
 use Rattle.vtp_server.specs.Talk.{Terms, course_after}
@@ -38,6 +39,7 @@ use Rattle.vtp_server.proofs.AuthorSteps.{line_turn}
 use Rattle.vtp_server.proofs.AuthorTalks.{all_expected, moves_on as author_moves, told_by as author_told}
 use Rattle.vtp_server.proofs.Called.{followed_so, submitted_so}
 use Rattle.vtp_server.proofs.EndStates.{same_end, same_end_on}
+use Rattle.vtp_server.proofs.Joins.{append_known-nil}
 use Rattle.vtp_server.proofs.Leading.{leads_with}
 use Rattle.vtp_server.proofs.ListenTalks.{begins, moves_on as listen_moves, told_by as listen_told}
 use Rattle.vtp_server.proofs.OneMove.{ends_full}
@@ -110,3 +112,17 @@ module _ {D L K : Type 0} (disk : Ghosts D) (link : LinkGhosts L) (sink : SinkGh
   followed_nothing count clock end old out =
       followed_so SubscriberTurns link sink Taker count (length end.notes) clock clock (Broken breach.NoMemory) ended.NoMemory end end old old out out (omega arith) refl
       (ends_full listen_rules SubscriberTurns (counts_of link sink old out) (counts_of link sink old out) Taker (course_from (first_listening count (length end.notes)) (listens count) clock) [] end (link.traffic old) (link.traffic old) (sink.held out) (sink.held out) refl refl)
+
+-- where no move was made, nothing was entered
+pub nothing_entered : (count : ℕ) (s : NodeState) (held : Option (List ℕ)) → HasEntered count s s ended.NoMemory held held
+nothing_entered count s held = record {
+  entered = [];
+  enters = tt;
+  notes = sym (append-nil s.notes);
+  few = omega arith;
+  said = [];
+  missing = [];
+  lines = refl;
+  told = append_known-nil held;
+  cause = tt;
+}
