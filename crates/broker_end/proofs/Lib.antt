@@ -1,3 +1,4 @@
 pub mod Packets
 pub mod LastSessions
 pub mod Shown
+pub mod Turnings

@@ -1,3 +1,4 @@
 -- A broker.
 pub mod Broker
 pub mod Inside
+pub mod Turning

@@ -7,6 +7,7 @@ mod event;
 mod live;
 mod sessions;
 mod taking;
+mod turned;
 
 pub use broker::BrokerEnd;
 pub use event::{BrokerEvent, Way};

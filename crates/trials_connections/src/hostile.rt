@@ -7,38 +7,22 @@ use broker_end::{BrokerEvent, Way};
 use hub_lock::Hub;
 use voe_outside::{MemoryClock, OpenGate};
 use vtp_server::{Ended, serve_author, serve_subscriber};
-use vtp_session::GarbageFault;
+use vtp_session::GarbageFault::{self, BadRole, Empty, Foreign, NoOrigin, TooLong};
 
-/// A talk: whole messages that come, loose bytes behind them, the messages that go back, and how it ends.
+/// A talk: whole messages that come, loose bytes behind them, the messages that go back, and with which garbage it ends.
 type Talk = (
     &'static [&'static [u8]],
     &'static [u8],
     &'static [&'static [u8]],
-    End,
+    Option<GarbageFault>,
 );
 
-#[derive(Clone, Copy, PartialEq, Eq)]
-enum End {
-    Closed,
-    Empty,
-    TooLong,
-    Foreign,
-    NoOrigin,
-    BadRole,
-    Other,
-}
-
-fn end_of(ended: &Ended) -> End {
-    match ended {
-        Ended::PeerClosed => End::Closed,
-        Ended::Garbage { fault, .. } => match fault {
-            GarbageFault::Empty => End::Empty,
-            GarbageFault::TooLong { .. } => End::TooLong,
-            GarbageFault::Foreign => End::Foreign,
-            GarbageFault::NoOrigin => End::NoOrigin,
-            GarbageFault::BadRole => End::BadRole,
-        },
-        _ => End::Other,
+/// Whether it ended with this garbage, or was closed by the peer.
+fn ended_so(ended: &Ended, wanted: Option<GarbageFault>) -> bool {
+    match (ended, wanted) {
+        (Ended::PeerClosed, None) => true,
+        (Ended::Garbage { fault, .. }, Some(wanted)) => *fault == wanted,
+        _ => false,
     }
 }
 
@@ -50,22 +34,32 @@ const TWICE: &[u8] = b"<a b=\"1\" b=\"2\"/>";
 
 /// What authors send to a broker.
 const AUTHORS: [Talk; 6] = [
-    (&[], b"\0\0\0\0", &[], End::Empty),
-    (&[PACKET], b"\0\x10\0\x01", &[TAKEN], End::TooLong),
-    (&[PACKET], b"\0\0\0\x09<voe", &[TAKEN], End::Closed),
-    (&[TWICE, PACKET, PACKET], b"", &[REFUSED, TAKEN, TAKEN], End::Closed),
-    (&[ACK, LOGIN, PACKET], b"", &[TAKEN], End::Closed),
-    (&[NO_NAME, PACKET], b"", &[], End::NoOrigin),
+    (&[], b"\0\0\0\0", &[], Some(Empty)),
+    (
+        &[PACKET],
+        b"\0\x10\0\x01",
+        &[TAKEN],
+        Some(TooLong { count: 1_048_577 }),
+    ),
+    (&[PACKET], b"\0\0\0\x09<voe", &[TAKEN], None),
+    (
+        &[TWICE, PACKET, PACKET],
+        b"",
+        &[REFUSED, TAKEN, TAKEN],
+        None,
+    ),
+    (&[ACK, LOGIN, PACKET], b"", &[TAKEN], None),
+    (&[NO_NAME, PACKET], b"", &[], Some(NoOrigin)),
 ];
 
 /// What subscribers send to a broker that owes their link one packet.
 const SUBSCRIBERS: [Talk; 6] = [
-    (&[PACKET], b"", &[WHO], End::Foreign),
-    (&[ACK, ACK], b"\0\0", &[WHO], End::Closed),
-    (&[LOGIN, ACK, ACK], b"", &[WHO, PACKET], End::Closed),
-    (&[LOGIN, LOGIN, ACK, ACK], b"", &[WHO, PACKET, PACKET], End::Closed),
-    (&[LOGIN, NO_ROLE], b"", &[WHO, PACKET], End::BadRole),
-    (&[LOGIN, ACK], b"\0\0\0\0", &[WHO, PACKET], End::Empty),
+    (&[PACKET], b"", &[WHO], Some(Foreign)),
+    (&[ACK, ACK], b"\0\0", &[WHO], None),
+    (&[LOGIN, ACK, ACK], b"", &[WHO, PACKET], None),
+    (&[LOGIN, LOGIN, ACK, ACK], b"", &[WHO, PACKET, PACKET], None),
+    (&[LOGIN, NO_ROLE], b"", &[WHO, PACKET], Some(BadRole)),
+    (&[LOGIN, ACK], b"\0\0\0\0", &[WHO, PACKET], Some(Empty)),
 ];
 
 #[test]
@@ -86,7 +80,7 @@ fn hostile_authors_are_answered_as_they_must_be(rt: HostRuntime) {
             &rt, alloc, &hub, &mut seat, &mut line, &mut clock, &OpenGate, 0, &own, TIMERS,
         );
         assert!(&rt; holds(&rt, alloc, line.held(), back));
-        assert!(&rt; end_of(&ended) == *end);
+        assert!(&rt; ended_so(&ended, *end));
         hub.close(&rt, seat);
     }
 }
@@ -112,7 +106,7 @@ fn hostile_subscribers_are_answered_as_they_must_be(rt: HostRuntime) {
             &rt, alloc, &hub, &mut seat, &mut feed, &mut clock, &OpenGate, 0, &own, TIMERS,
         );
         assert!(&rt; holds(&rt, alloc, feed.held(), back));
-        assert!(&rt; end_of(&ended) == *end);
+        assert!(&rt; ended_so(&ended, *end));
         hub.close(&rt, seat);
     }
 }

@@ -140,7 +140,7 @@ module _ {D : Type 0} (disk : Ghosts D) (old new : EndView D) where
   sendable line asked (a.Packet at identifier packet) s =
       let t = line_turn line asked (a.Packet at identifier packet) s in
       let order : AreInOrder old.config [] old.notes =
-          subst (λ (notes : List Note). AreInOrder old.config [] notes) (notes_given line asked at identifier packet (down_of disk old.disk old.down) t) (subst (λ config. AreInOrder config [] new.notes) s.config s.sound.told.in_order) in
+      subst (λ (notes : List Note). AreInOrder old.config [] notes) (notes_given line asked at identifier packet (down_of disk old.disk old.down) t) (subst (λ config. AreInOrder config [] new.notes) s.config s.sound.told.in_order) in
       let good = given_good line asked at identifier packet (down_of disk old.disk old.down) order t in
       (good.identifier, good.packet)
   sendable line asked a.Nothing s = tt

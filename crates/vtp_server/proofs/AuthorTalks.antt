@@ -234,11 +234,12 @@ module _ (line : ℕ) (room : Room) (b : NodeState) where
         talk.1 led
     all_expected c (Turn asked answer place front ∷ ms) x y h talk led =
         let at = subst (λ (n : Next AuthorAsk SubmitStop). At n c.memory c.unanswered (state_of x)) talk.0.0 h in
-        let t = means x led.0 asked answer place front led.1 in
-        (turn_expected asked answer c.memory c.unanswered (state_of x) (state_of led.0) at t,
-        all_expected (course_after_move By author_rules c (Turn asked answer place front)) ms led.0 y
-        (turn_on asked answer c.memory c.unanswered (state_of x) (state_of led.0) at t)
-        talk.1 led.2)
+        let t = means x led.0 asked answer place front led.1 in (
+          turn_expected asked answer c.memory c.unanswered (state_of x) (state_of led.0) at t,
+          all_expected (course_after_move By author_rules c (Turn asked answer place front)) ms led.0 y
+              (turn_on asked answer c.memory c.unanswered (state_of x) (state_of led.0) at t)
+              talk.1 led.2,
+        )
     all_expected c (Write payload ∷ ms) x y h talk led =
         all_expected (course_after_move By author_rules c (Write payload)) ms x y
         (write_on By c.next c.watch.latest payload c.memory c.unanswered (state_of x) h talk.0.0)

@@ -20,3 +20,4 @@ pub mod EndStates
 pub mod AuthorSteps
 pub mod SubscriberSteps
 pub mod EndCalls
+pub mod BrokerTurns

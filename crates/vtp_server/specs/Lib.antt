@@ -27,3 +27,4 @@ pub mod Submission
 pub mod Entered
 pub mod EndCauses
 pub mod Written
+pub mod Synced

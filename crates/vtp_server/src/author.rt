@@ -4,13 +4,13 @@ ghost use Rattle.std.specs.Prelude.{◌≡◌, IfOk};
 
 use crate::ended::SubmitStop;
 use crate::sending::send;
+use crate::side::{Next, Side};
 use net_model::AuthorStep;
 use std::alloc::Global;
 use std::marker::Model;
 use std::mem;
 use voe_values::{Ivorn, NoMemory, Text};
 use vtp_session::Act;
-use crate::side::{Next, Side};
 
 /// What a line asks its author.
 #[derive(Drop)]

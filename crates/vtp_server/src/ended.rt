@@ -2,9 +2,9 @@
 
 ghost use Rattle.std.specs.Prelude.{◌≡◌};
 
+use crate::breach::{Breach, Parted};
 use voe_values::{Ivorn, Text};
 use vtp_session::GarbageFault;
-use crate::breach::{Breach, Parted};
 
 /// Why a connection ended.
 #[derive(Clone, Copy, Debug)]

@@ -6,14 +6,14 @@ use crate::ask::BrokerAsk;
 use crate::ended::Stop;
 use crate::guest::GuestFilters;
 use crate::sending::send;
+use crate::side::{Next, Side};
+use crate::speech::Speech;
 use net_model::BrokerStep;
 use std::alloc::Global;
 use std::marker::Model;
 use std::mem;
 use voe_values::{EndName, Ivorn, Listing, NoMemory, Text};
 use vtp_session::Act;
-use crate::side::{Next, Side};
-use crate::speech::Speech;
 
 /// Who the peer of a feed is.
 #[derive(Drop)]

@@ -6,29 +6,29 @@
 //! written is a list of moves as the side's rules allow, and the bytes taken from the link and put on it are those of that list.
 #![tactic(auto)]
 
-mod breach;
-mod driving;
-mod moving;
-mod putting;
-mod reading;
-mod side;
-mod speech;
-mod spelling;
-
 mod ask;
 mod author;
+mod breach;
+mod driving;
 mod ended;
 mod feed;
 mod guest;
+pub mod laws;
 mod line;
 mod listener;
+mod moving;
 mod no_sink;
 mod one_end;
 mod over_author;
 mod over_hub;
 mod over_subscriber;
+mod putting;
+mod reading;
 mod sending;
 mod serving;
+mod side;
+mod speech;
+mod spelling;
 mod submitting;
 mod take;
 

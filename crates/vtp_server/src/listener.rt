@@ -4,6 +4,8 @@ ghost use Rattle.std.specs.Prelude.{◌≡◌, IfOk};
 ghost use Rattle.vtp_server.specs.ListenSide.{line_of};
 
 use crate::ended::ListenStop;
+use crate::side::{Next, Side};
+use crate::speech::Speech;
 use net_model::{SubscriberStep, Verdict};
 use std::alloc::Global;
 use std::marker::Model;
@@ -11,8 +13,6 @@ use std::mem;
 use voe_values::{Bytes, NoMemory};
 use vtp_framing::Payload;
 use vtp_session::Act;
-use crate::side::{Next, Side};
-use crate::speech::Speech;
 
 /// Gives each packet its turn and writes its verdict, answers who it is and that it is there, and tells a line for each packet
 /// that was entered, until so many were. Contracts see how many are still wanted, how many records there were, and the line

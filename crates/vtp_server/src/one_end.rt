@@ -11,6 +11,7 @@ ghost use Rattle.vtp_server.specs.Submission.{AllExpected, HasNone, IsNothingTol
 use crate::ended::{Ended, Submitted};
 use crate::over_author::OverAuthor;
 use crate::over_subscriber::OverSubscriber;
+use crate::speech::Voice;
 use crate::submitting::{listen_over, submit_over};
 use author_end::AuthorEnd;
 use std::alloc::Global;
@@ -21,7 +22,6 @@ use voe_disk::Disk;
 use voe_outside::{Clock, Link, Sink};
 use voe_values::{EndName, Listing, NoMemory};
 use vtp_session::Timers;
-use crate::speech::Voice;
 
 fn voice_of(alloc: Global, name: &EndName) -> Result<Voice, NoMemory>
     ensures { IfOk result (λ voice. voice ≡ record { name = name.now; filters = [] }) }

@@ -3,11 +3,11 @@
 ghost use Rattle.std.specs.Prelude.{◌≡◌};
 
 use crate::author::AuthorAsk;
+use crate::side::Turns;
 use author_end::{AuthorEnd, AuthorEvent};
 use net_model::AuthorStep;
 use std::marker::PhantomData;
 use voe_disk::Disk;
-use crate::side::Turns;
 
 /// The line of an author.
 #[derive(Drop)]

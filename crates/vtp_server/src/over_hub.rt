@@ -3,11 +3,11 @@
 ghost use Rattle.std.specs.Prelude.{◌≡◌};
 
 use crate::ask::BrokerAsk;
+use crate::side::Turns;
 use broker_end::BrokerEvent;
 use hub_lock::{Hub, Seat, Turned};
 use net_model::BrokerStep;
 use std::sync::Wait;
-use crate::side::Turns;
 
 /// A hub of a broker, and what waits there.
 #[derive(Drop)]

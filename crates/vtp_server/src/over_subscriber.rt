@@ -2,12 +2,12 @@
 
 ghost use Rattle.std.specs.Prelude.{◌≡◌};
 
+use crate::side::Turns;
 use net_model::SubscriberStep;
 use std::marker::PhantomData;
 use subscriber_end::{SubscriberEnd, SubscriberEvent};
 use voe_disk::Disk;
 use vtp_framing::Payload;
-use crate::side::Turns;
 
 /// A subscriber.
 #[derive(Drop)]

@@ -4,11 +4,11 @@ ghost use Rattle.std.specs.Prelude.{◌≡◌, true, IfOk};
 ghost use Rattle.node_notes.specs.Forms.{is_identifier, is_packet};
 ghost use Rattle.vtp_server.specs.declared.side.Next.TheVariants as next;
 
+use crate::side::Next;
 use std::alloc::Global;
 use std::str;
 use voe_values::{Bytes, Ivorn, NoMemory};
 use vtp_framing::Payload;
-use crate::side::Next;
 
 #[tactic(auto, using(node_notes::proofs::Texts::identifier_is, node_notes::proofs::Texts::no_identifier))]
 fn ivorn_of(alloc: Global, identifier: &Bytes) -> Result<Ivorn, NoMemory>

@@ -15,11 +15,14 @@ ghost use Rattle.vtp_server.specs.Sendable.{IsSendable};
 ghost use Rattle.net_model.specs.declared.step.BrokerStep.{BrokerStep as Reply};
 
 use crate::ask::BrokerAsk;
+use crate::driving::drive;
 use crate::ended::{Ended, Stop};
 use crate::feed::Feed;
 use crate::line::Line;
 use crate::no_sink::NoSink;
 use crate::over_hub::OverHub;
+use crate::side::Next;
+use crate::speech::{Speech, Voice};
 use crate::take::Follower;
 use broker_end::BrokerEvent;
 use hub_lock::{Hub, Seat, Turned};
@@ -29,9 +32,6 @@ use std::sync::Wait;
 use voe_outside::{Clock, Gate, Link};
 use voe_values::{EndName, Listing, NoMemory};
 use vtp_session::{Session, Side, Timers};
-use crate::driving::drive;
-use crate::side::Next;
-use crate::speech::{Speech, Voice};
 
 /// How many packets may wait for an answer on a connection.
 pub const MOST_UNANSWERED: usize = 32;

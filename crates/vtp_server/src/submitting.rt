@@ -9,18 +9,18 @@ ghost use Rattle.vtp_server.specs.ListenSide.{listens};
 ghost use Rattle.vtp_server.specs.Sendable.{IsSendableOn};
 
 use crate::author::{AuthorAsk, Submitter};
+use crate::driving::drive;
 use crate::ended::{Ended, ListenStop, Submitted};
 use crate::listener::Listening;
 use crate::no_sink::NoSink;
+use crate::side::{Next, Turns};
+use crate::speech::Voice;
 use net_model::{AuthorStep, SubscriberStep};
 use std::alloc::Global;
 use std::sync::Wait;
 use voe_outside::{Clock, Link, Sink};
 use vtp_framing::Payload;
 use vtp_session::{Session, Side, Timers};
-use crate::driving::drive;
-use crate::side::{Next, Turns};
-use crate::speech::Voice;
 
 /// Sends the first unanswered packet and waits for its answer, which it hands in.
 pub fn submit_over<T: Turns<AuthorAsk, AuthorStep>, L: Link, C: Clock, W: Wait>(

@@ -4,12 +4,12 @@ ghost use Rattle.std.specs.Prelude.{◌≡◌};
 
 use crate::ask::BrokerAsk;
 use crate::ended::Stop;
+use crate::side::{Next, Side};
+use crate::speech::Speech;
 use broker_end::Way;
 use net_model::BrokerStep;
 use voe_values::NoMemory;
 use vtp_session::Act;
-use crate::side::{Next, Side};
-use crate::speech::Speech;
 
 /// Gives each packet its turn and writes its verdict, and answers who it is and that it is there.
 #[derive(Drop)]

@@ -13,15 +13,14 @@ returns-in-Next-clause-gives g c =
 
 pub returns-in-Next-clause-turn : goal.returns-in-Next-clause-turn
 returns-in-Next-clause-turn g c =
-    let e = c.step.ensures in
-    (
+    let e = c.step.ensures in (
       length c.args.end.now.notes,
       subst (λ (q : AuthorAsk). IsAuthorTurn g.D.Disk c.args.self.now.line c.args.end.now q c.step.result (length c.args.end.now.notes) (length c.step.new.self.notes) c.step.new.self) (sym c.in-Next.is)
-      (record {
-        step = record { config = e.config; sessions = e.sessions; steps = e.steps; same_disk = e.same_disk; sound = e.sound; was_down = e.was_down; happens = e.happens; rules = e.rules; no_memory = e.no_memory };
-        place_is = refl;
-        front_is = refl;
-      }),
+          (record {
+            step = record { config = e.config; sessions = e.sessions; steps = e.steps; same_disk = e.same_disk; sound = e.sound; was_down = e.was_down; happens = e.happens; rules = e.rules; no_memory = e.no_memory };
+            place_is = refl;
+            front_is = refl;
+          }),
     )
 
 pub returns-in-Answer-clause-gives : goal.returns-in-Answer-clause-gives
