@@ -1,13 +1,12 @@
 -- What stands at the front when there is nothing to hear, and when there is a barred count.
-use Rattle.std.proofs.Common.{◌≡◌, ◌⊎◌, ℕ, ◌+◌, List, take, drop, refl, inl, inr, ap}
-use Rattle.std.specs.Prelude.{IsTrue, IfOk, OnErr, Result, Ok, Err}
+use Rattle.std.proofs.Common.{◌≡◌, ℕ, ◌+◌, List, take, drop, refl, inl, inr, ap}
+use Rattle.std.specs.Prelude.{IfOk, OnErr, Result, Ok, Err}
 use Rattle.voe_values.specs.declared.memory.NoMemory.{NoMemory}
-use Rattle.vtp_framing.specs.Frames.{BeginsFrame}
-use Rattle.vtp_framing.specs.Front.{IsUnfinished, IsWhole, LooksAt}
+use Rattle.vtp_framing.specs.Front.{IsUnfinished, LooksAt}
 use Rattle.vtp_framing.specs.declared.unframer.Front.{Front}
 use Rattle.vtp_framing.specs.declared.unframer.Front.TheVariants.{Unfinished, Empty, TooLong, Whole}
 use Rattle.vtp_framing.proofs.FrameLemmas.{barred_frame, unfinished_barred, unfinished_frame, whole_begins}
-use Rattle.vtp_session.specs.State.{BeginsWhole, IsBarredAt, MeetsGarbage, NextOf, SessionState}
+use Rattle.vtp_session.specs.State.{BeginsWhole, IsBarredAt, NextOf, SessionState}
 use Rattle.vtp_session.specs.declared.act.Act.{Act}
 use Rattle.vtp_session.specs.declared.act.Act.TheVariants.{Nothing, Garbage}
 use Rattle.vtp_session.specs.declared.act.GarbageFault.{GarbageFault}

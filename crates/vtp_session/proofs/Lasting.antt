@@ -1,18 +1,17 @@
 -- Garbage that was met stays met.
-use Rattle.std.proofs.Common.{◌≡◌, ◌⊎◌, ℕ, ◌+◌, ◌≤◌, Bool, true, false, List, ◌++◌, take, length, refl, sym, ◌∙◌, ap, subst, inl, inr, arith, append_assoc, length-append}
+use Rattle.std.proofs.Common.{◌≡◌, ℕ, Bool, true, false, List, ◌++◌, refl, sym, ◌∙◌, ap, subst, inl, inr, arith, append_assoc, length-append}
 use Rattle.std.specs.Int.{w32, from_be_bytes}
 use Rattle.std.specs.Prelude.{Option, Some, None, slice_get}
 use Rattle.std.proofs.lemmas.List.{take-append-le}
 use Rattle.xml_lexer.specs.Characters.{Text}
 use Rattle.voe_packet.specs.declared.param.Param.{Param}
-use Rattle.vtp_framing.specs.Frames.{BeginsFrame, Counts, frame}
+use Rattle.vtp_framing.specs.Frames.{Counts, frame}
 use Rattle.vtp_messages.specs.declared.role.MessageRole.{MessageRole}
 use Rattle.vtp_messages.specs.declared.role.MessageRole.TheVariants.{IAmAlive, Authenticate, Ack, Nak}
-use Rattle.vtp_session.specs.Acts.{Means, act_of, answer_at, answer_of, answer_to, auth_of, is_garbage, told_to}
+use Rattle.vtp_session.specs.Acts.{act_of, answer_at, answer_of, answer_to, auth_of, is_garbage, told_to}
 use Rattle.vtp_session.specs.Places.{answered_at}
-use Rattle.vtp_session.specs.State.{SessionState, IsBarredAt, MeansGarbage, MeetsGarbage}
+use Rattle.vtp_session.specs.State.{SessionState, IsBarredAt, MeetsGarbage}
 use Rattle.vtp_session.specs.Watch.{Watch}
-use Rattle.vtp_session.specs.declared.act.Act.{Act}
 use Rattle.vtp_session.specs.declared.act.Act.TheVariants.{Garbage}
 use Rattle.vtp_session.specs.declared.act.GarbageFault.{GarbageFault}
 use Rattle.vtp_session.specs.declared.act.GarbageFault.TheVariants.{Empty, TooLong, BadRole, NoOrigin, Foreign}
