@@ -1,0 +1,30 @@
+use Rattle.std.proofs.Common.{None, [], ◌≡◌, ◌≤◌, ◌^◌, ◌-◌, false, refl, arith, subst}
+use Rattle.vtp_session.specs.State.{SessionState}
+use Rattle.vtp_session.specs.declared.side.Side.TheVariants as side
+use Rattle.vtp_server.specs.Counts.{link_counts}
+use Rattle.vtp_server.specs.Ends.{Ends, course_of, standing_of}
+use Rattle.vtp_server.specs.Reading.{terms_of}
+use Rattle.vtp_server.specs.declared.side.Next.TheVariants as next
+use Rattle.vtp_server.specs.declared.speech.Speech.TheVariants as speech
+use Rattle.vtp_server.specs.declared.speech.Voice.{Voice}
+use Rattle.vtp_server.specs.Calls.{terms_by}
+use Rattle.vtp_server.specs.HubTurns.{IsHubTurn}
+use Rattle.vtp_server.specs.TakeSide.{take_rules}
+use Rattle.vtp_server.proofs.RuleFacts.{take_stops, take_tells}
+use Rattle.vtp_server.proofs.Spoken.{take_speaks}
+use Rattle.vtp_server.proofs.Served.{served_by, served_nothing}
+use Rattle.vtp_server.proofs.serving.follow_upstream.Goals as goal
+
+pub returns-in_default-clause-talk : goal.returns-in_default-clause-talk
+returns-in_default-clause-talk g c =
+    let h = g.S.Turned in
+    let few : c.args.seat.now.turns ≤ 2 ^ 64 - 1 = omega (arith, c.turns-made.ensures) in
+    served_nothing h.fixed h.records h.sound h.means h.sign_of g.L.Link (terms_by side.Take c.args.timers c.args.name.now []) take_rules take_stops take_tells take_speaks (record {}) next.Read refl refl tt (g.C.Clock.moment c.args.clock.now) c.args.seat.now c.args.link.now (omega arith) few
+
+pub returns-clause-talk : goal.returns-clause-talk
+returns-clause-talk g c =
+    let h = g.S.Turned in
+    let few : c.args.seat.now.turns ≤ 2 ^ 64 - 1 = omega (arith, c.turns-made.ensures) in
+    served_by h.fixed h.records h.sound h.means h.sign_of g.L.Link (terms_by side.Take c.args.timers c.args.name.now []) take_rules take_stops take_tells take_speaks (record {}) next.Read refl refl tt (g.C.Clock.moment c.args.clock.now) c.now-start.result c.drive-parted.result c.of_serving.result c.args.seat.now c.drive-parted.new.seat c.args.link.now c.drive-parted.new.link c.drive-parted.new.sink.faults
+    (omega (arith, c.now-start.ensures.value, c.now-start.ensures.forward)) c.of_serving.ensures few
+    (subst (λ (x : SessionState × Voice). Ends (terms_of x.1 x.0) take_rules (IsHubTurn h.fixed h.records h.sound h.means h.sign_of) (course_of (record {}) next.Read x.0) (standing_of x.0 c.args.seat.now (g.L.Link.traffic c.args.link.now) None) c.drive-parted.result c.drive-parted.new.seat (g.L.Link.traffic c.drive-parted.new.link) None (record { link = link_counts g.L.Link c.args.link.now; sink = 0 }) (record { link = link_counts g.L.Link c.drive-parted.new.link; sink = c.drive-parted.new.sink.faults })) (λ i. (c.new-session.ensures i, c.in-Ok.ensures i)) c.drive-parted.ensures.talk)
