@@ -1,0 +1,9 @@
+pub mod Queues
+pub mod Searches
+pub mod Edges
+pub mod Ways
+pub mod Naming
+pub mod Bridges
+pub mod Picks
+pub mod Listings
+pub mod Kept

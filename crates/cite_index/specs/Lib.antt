@@ -1,0 +1,6 @@
+-- Words of citations.
+pub mod Cites
+pub mod Kept
+pub mod Names
+pub mod Threads
+pub mod Reach
