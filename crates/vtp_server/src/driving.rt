@@ -1,6 +1,6 @@
 //! A connection from its first move to its end.
 
-ghost use Rattle.std.specs.Prelude.{◌≡◌, ℕ};
+ghost use Rattle.std.specs.Prelude.{◌≡◌, ◌≤◌, ℕ};
 ghost use Rattle.vtp_server.specs.Counts.{counts_of};
 ghost use Rattle.vtp_server.specs.InTime.{InTime, PartsInTime};
 ghost use Rattle.vtp_server.specs.Reading.{terms_of};
@@ -32,6 +32,7 @@ pub fn drive<A: Drop, R, E, S: Side<A, R, E>, T: Turns<A, R>, L: Link, C: Clock,
     requires seat { T.seats turns.now seat.old }
     requires time { InTime session.old.watch (C.moment clock.old) }
     requires replies { (reply : R) → T.gives reply → S.takes reply }
+    ensures forward { C.moment clock.old ≤ C.moment clock.new }
     ensures silent { PartsInTime result session.old.watch (C.moment clock.new) }
     ensures seat { T.seats turns.now seat.new }
     ensures talk { Ends (terms_of voice.now session.old) S.rules (T.acts turns.now) (course_of side.old first session.old) (standing_of session.old seat.old (L.traffic link.old) (K.held sink.old)) result seat.new (L.traffic link.new) (K.held sink.new) (counts_of L.Link K.Sink link.old sink.old) (counts_of L.Link K.Sink link.new sink.new) }

@@ -34,6 +34,7 @@ pub fn make_move<A: Drop, R, E, S: Side<A, R, E>, T: Turns<A, R>, L: Link, C: Cl
     requires time { InTime session.old.watch (C.moment clock.old) }
     requires replies { (reply : R) → T.gives reply → S.takes reply }
     ensures time { OnOk result (GoesOnInTime session.old.watch session.new.watch (C.moment clock.new)) }
+    ensures forward { C.moment clock.old ≤ C.moment clock.new }
     ensures silent { IfErr result (λ e. PartsInTime e session.old.watch (C.moment clock.new)) }
     ensures seat { T.seats turns.now seat.new }
     ensures side { OnOk result (session.new.side ≡ session.old.side) }

@@ -1,6 +1,6 @@
 //! The calls of an author and of a subscriber over the one end that they are lent.
 
-ghost use Rattle.std.specs.Prelude.{◌≡◌, ◌<◌, [], IfOk, None, length};
+ghost use Rattle.std.specs.Prelude.{◌≡◌, ◌<◌, ◌≤◌, [], IfOk, None, length};
 ghost use Rattle.node_book.specs.Keeps.{has_room};
 ghost use Rattle.vtp_session.specs.declared.side.Side.TheVariants as side;
 ghost use Rattle.vtp_server.specs.Calls.{IsFollowed, IsSilentInTime, IsSubmitted, IsSubmittedInTime, terms_by};
@@ -50,6 +50,7 @@ pub fn submit<L: Link, C: Clock, D: Disk, W: Wait>(
     ensures told { IsToldOf line (λ notes note. has_room end.old.config notes note) (state_of D.Disk end.old) result (state_of D.Disk end.new) }
     ensures nothing { end.old.down ≡ None → HasNone line end.old.notes → IsNothingTold result }
     ensures same { IsSameEnd D.Disk end.old end.new }
+    ensures forward { C.moment clock.old ≤ C.moment clock.new }
     ensures silent { IsSubmittedInTime result (C.moment clock.old) (C.moment clock.new) }
     ensures talk { IsSubmitted (λ before ask reply place front after. IsAuthorTurn D.Disk line before ask reply place front after) L.Link (terms_by side.Author timers end.old.config.name []) (C.moment clock.old) result end.old end.new link.old link.new }
     ensures replies { (h : IsSubmitted (λ before ask reply place front after. IsAuthorTurn D.Disk line before ask reply place front after) L.Link (terms_by side.Author timers end.old.config.name []) (C.moment clock.old) result end.old end.new link.old link.new) → AllExpected h.ends.moves }
@@ -78,6 +79,7 @@ pub fn listen<L: Link, C: Clock, D: Disk, K: Sink, W: Wait>(
 ) -> Ended
     ensures entered { HasEntered count (state_of D.Disk end.old) (state_of D.Disk end.new) result (K.held sink.old) (K.held sink.new) }
     ensures same { IsSameEnd D.Disk end.old end.new }
+    ensures forward { C.moment clock.old ≤ C.moment clock.new }
     ensures silent { IsSilentInTime result (C.moment clock.old) (C.moment clock.new) }
     ensures talk { IsFollowed (λ before packet reply place front after. IsSubscriberTurn D.Disk before packet reply place front after) L.Link K.Sink (terms_by side.Take timers end.old.config.name []) count (length end.old.notes) (C.moment clock.old) result end.old end.new link.old link.new sink.old sink.new }
 {

@@ -105,6 +105,7 @@ pub fn read<L: Link, C: Clock>(
 ) -> Result<Seen, Breach>
     requires { InTime session.old.watch (C.moment clock.old) }
     ensures time { OnOk result (GoesOnInTime session.old.watch session.new.watch (C.moment clock.new)) }
+    ensures forward { C.moment clock.old ≤ C.moment clock.new }
     ensures silent { IfErr result (λ e. SilentInTime e session.old.watch (C.moment clock.new)) }
     ensures ok { IfOk result (λ seen. ReadMade session.old (L.traffic link.old) seen session.new (L.traffic link.new)) }
     ensures err { IfErr result (λ e. ReadEnds e session.old (L.traffic link.old) session.new (L.traffic link.new) (link_counts L.Link link.old) (link_counts L.Link link.new)) }

@@ -1,6 +1,6 @@
 //! The calls of an author and of a subscriber, whoever takes their turns.
 
-ghost use Rattle.std.specs.Prelude.{◌≡◌};
+ghost use Rattle.std.specs.Prelude.{◌≡◌, ◌≤◌};
 ghost use Rattle.net_model.specs.declared.step.AuthorStep.{AuthorStep as Reply};
 ghost use Rattle.net_model.specs.declared.step.SubscriberStep.{SubscriberStep as Answer};
 ghost use Rattle.vtp_session.specs.declared.side.Side.TheVariants as side;
@@ -36,6 +36,7 @@ pub fn submit_over<T: Turns<AuthorAsk, AuthorStep>, L: Link, C: Clock, W: Wait>(
     requires seat { T.seats turns.now seat.old }
     requires replies { (reply : Reply) → T.gives reply → IsSendableOn reply }
     ensures seat { T.seats turns.now seat.new }
+    ensures forward { C.moment clock.old ≤ C.moment clock.new }
     ensures silent { IsSubmittedInTime result (C.moment clock.old) (C.moment clock.new) }
     ensures talk { IsSubmitted (T.acts turns.now) L.Link (terms_by side.Author timers voice.now.name voice.now.filters) (C.moment clock.old) result seat.old seat.new link.old link.new }
 {
@@ -84,6 +85,7 @@ pub fn listen_over<T: Turns<Payload, SubscriberStep>, L: Link, C: Clock, K: Sink
 ) -> Ended
     requires { T.seats turns.now seat.old }
     ensures seat { T.seats turns.now seat.new }
+    ensures forward { C.moment clock.old ≤ C.moment clock.new }
     ensures silent { IsSilentInTime result (C.moment clock.old) (C.moment clock.new) }
     ensures talk { IsFollowed (T.acts turns.now) L.Link K.Sink (terms_by side.Take timers voice.now.name voice.now.filters) count (T.front_of seat.old) (C.moment clock.old) result seat.old seat.new link.old link.new sink.old sink.new }
 {

@@ -1,4 +1,4 @@
-use Rattle.std.proofs.Common.{◌≡◌}
+use Rattle.std.proofs.Common.{◌≡◌, ◌≤◌}
 use Rattle.vtp_server.specs.Counts.{NeverFall, counts_of}
 use Rattle.vtp_server.specs.Reading.{terms_of}
 use Rattle.vtp_server.specs.Ends.{course_of, standing_of}
@@ -9,6 +9,7 @@ use Rattle.vtp_server.proofs.driving.drive.Given as goal
 abbrev pub invariant-loop : goal.invariant-loop
 invariant-loop g l = record {
   time : GoesOnInTime l.initial.session.watch l.session.watch (g.C.Clock.moment l.clock);
+  forward : g.C.Clock.moment l.initial.clock ≤ g.C.Clock.moment l.clock;
   seat : g.T.Turns.seats l.turns l.seat;
   side : l.session.side ≡ l.initial.session.side;
   times : l.session.times ≡ l.initial.session.times;
