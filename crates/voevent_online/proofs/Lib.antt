@@ -1,0 +1,11 @@
+pub mod Added
+pub mod Brokers
+pub mod Causes
+pub mod Ending
+pub mod Falling
+pub mod Later
+pub mod Listened
+pub mod Opened
+pub mod Rounded
+pub mod Tried
+pub mod WrittenPacket
